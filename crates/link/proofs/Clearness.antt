@@ -1,0 +1,38 @@
+-- A plan is clear exactly where each row's offset is free of the rows before it. Assumes nothing.
+use mathlib.Core.Path.{_≡_, refl, ap}
+use mathlib.Core.Bool.{Bool, true, false, not, _||_}
+use mathlib.Core.List.{List}
+use Prim.Native.Nat.{ℕ, _<_}
+use lib.Dec.{ltb}
+use lib.ListN.{length, getD}
+use borrow.Author.Tests.{not-true}
+use Rattle.link.specs.Least.{some}
+use Rattle.link.specs.Rows.{Crossing, one, two, start, hits, either, free, Clear}
+use Rattle.link.proofs.Bools.{clash, is-false, or-none}
+use Rattle.link.proofs.Minimum.{none-has, some-none, least-cong}
+use Rattle.link.proofs.Circle.{meets-true, meets-slot}
+use Rattle.link.proofs.Meeting.{neither}
+
+module _ (p l : ℕ) (ds os : List ℕ) where
+  pub clear-rows : 0 < p → ((j : ℕ) → j < length ds → free p l ds os j (getD ds j 0) (getD os j 0) ≡ true) → Clear p l ds os
+  unfolding free either hits start
+  clear-rows h f = record { apart = λ c i j d m q. clash (meets-true p l (start p ds os c i) (start p ds os c j) h q) (at c i j d m) }
+    where
+      hit : ℕ → Crossing → ℕ → Bool
+      hit j = hits p l ds os (getD ds j 0) (getD os j 0)
+
+      at : (c : Crossing) (i j : ℕ) → i < j → j < length ds → hits p l ds os (getD ds j 0) (getD os j 0) c i ≡ false
+      at one i j d m = or-none (hit j one i) (hit j two i) (none-has (either (hit j)) j (not-true _ (f j m)) i d) .0
+      at two i j d m = or-none (hit j one i) (hit j two i) (none-has (either (hit j)) j (not-true _ (f j m)) i d) .1
+
+  pub rows-clear : Clear p l ds os → (j : ℕ) → j < length ds → free p l ds os j (getD ds j 0) (getD os j 0) ≡ true
+  unfolding free hits start
+  rows-clear c j m = ap not (some-none _ j (λ i d. neither _ i (at one i d) (at two i d)))
+    where
+      at : (x : Crossing) (i : ℕ) → i < j → hits p l ds os (getD ds j 0) (getD os j 0) x i ≡ false
+      at x i d = is-false _ (λ e. c .apart x i j d m (meets-slot _ _ _ _ e))
+
+-- whether an offset is free goes by the rows before
+pub free-cong : (p l : ℕ) (ds os ps : List ℕ) (n d a : ℕ) → ((i : ℕ) → i < n → getD os i 0 ≡ getD ps i 0) → free p l ds os n d a ≡ free p l ds ps n d a
+unfolding free hits either start
+free-cong p l ds os ps n d a h = ap (λ (x : ℕ). not (ltb x n)) (least-cong _ _ n (λ i q. rw (h i q)))

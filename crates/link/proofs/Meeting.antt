@@ -1,0 +1,91 @@
+-- How code shows which row is met first, and what that says of a plan. Assumes nothing.
+use mathlib.Core.Path.{_≡_, refl, sym, _∙_, ap}
+use mathlib.Core.Bool.{Bool, true, false, not, cond, _||_}
+use mathlib.Core.List.{List}
+use Prim.Native.Nat.{ℕ, _<_, _≤_}
+use native.Mathlib.Omega.{arith}
+use native.Mathlib.Nat.{mod-lt}
+use lib.ListN.{length, getD, take}
+use lib.Seq.{length-take-le, getD-take}
+use borrow.Author.Tests.{ltb-true}
+use Rattle.link.specs.Least.{least, some}
+use Rattle.link.specs.Rows.{Crossing, one, two, second, startAt, start, hits, either, free, firstHit, metAt, near, firstNear, isNobody}
+use Rattle.link.specs.declared.Met.{Met}
+use Rattle.link.specs.declared.Met.the-variants.{Nobody, Row}
+use Rattle.link.proofs.Circle.{meets-apart}
+use Rattle.link.proofs.Minimum.{least-at, least-cong, some-at, some-none}
+
+module _ (h : Crossing → ℕ → Bool) where
+  pub neither : (i : ℕ) → h one i ≡ false → h two i ≡ false → either h i ≡ false
+  unfolding either
+  neither i e f = rw (e, f)
+
+  pub nobody : (n : ℕ) → ((i : ℕ) → i < n → either h i ≡ false) → Nobody ≡ firstHit h n
+  unfolding firstHit
+  nobody n b = rw (some-none (either h) n b)
+
+  hit-at : (n i : ℕ) → i < n → ((k : ℕ) → k < i → either h k ≡ false) → either h i ≡ true → Row i (cond (h one i) 1 2) ≡ firstHit h n
+  unfolding firstHit
+  hit-at n i l b e =
+      let at : least (either h) n ≡ i = least-at (either h) n i (omega arith) b (λ _. e) in
+      rw (some-at (either h) n i l e, at)
+
+  pub hit-one : (n i : ℕ) → i < n → ((k : ℕ) → k < i → either h k ≡ false) → h one i ≡ true → Row i 1 ≡ firstHit h n
+  unfolding either
+  hit-one n i l b e = rw e at (hit-at n i l b (rw e))
+
+  pub hit-two : (n i : ℕ) → i < n → ((k : ℕ) → k < i → either h k ≡ false) → h one i ≡ false → h two i ≡ true → Row i 2 ≡ firstHit h n
+  unfolding either
+  hit-two n i l b e f = rw e at (hit-at n i l b (rw (e, f)))
+
+-- it goes by the tests alone
+pub first-hit-cong : (h g : Crossing → ℕ → Bool) (n : ℕ) → ((c : Crossing) (i : ℕ) → i < n → h c i ≡ g c i) → firstHit h n ≡ firstHit g n
+unfolding firstHit either
+first-hit-cong h g n f = go (some (either g) n) refl
+  where
+    at : least (either h) n ≡ least (either g) n
+    at = least-cong (either h) (either g) n (λ i l. rw (f one i l, f two i l))
+
+    go : (b : Bool) → some (either g) n ≡ b → firstHit h n ≡ cond b (Row (least (either g) n) (cond (g one (least (either g) n)) 1 2)) Nobody
+    go true e = rw (at, e, f one (least (either g) n) (ltb-true _ _ e))
+    go false e = rw (at, e)
+
+pub second-low : (p d a : ℕ) → 0 < p → second p d a < p
+unfolding second
+second-low p d a h = mod-lt _ h
+
+pub start-low : (p : ℕ) (c : Crossing) (d a : ℕ) → a < p → startAt p c d a < p
+start-low p one d a h = h
+start-low p two d a h = second-low p d a (omega arith)
+
+-- xs and ys have the starts of the first j rows of the plan os
+pub record Starts (p l : ℕ) (ds os : List ℕ) (j : ℕ) (xs ys : List ℕ) : Type 0 where
+  pub span-high : l ≤ p
+  pub xs-length : j ≤ length xs
+  pub ys-length : j ≤ length ys
+  pub firsts : (i : ℕ) → i < j → getD xs i 0 ≡ getD os i 0
+  pub seconds : (i : ℕ) → i < j → getD ys i 0 ≡ start p ds os two i
+  pub low : (i : ℕ) → i < j → getD os i 0 < p
+
+module _ (p l : ℕ) (ds os : List ℕ) (j : ℕ) (xs ys : List ℕ) (s : Starts p l ds os j xs ys) where
+  near-hits : (d a : ℕ) → a < p → (c : Crossing) (i : ℕ) → i < j → near p l (take j xs) (take j ys) a (second p d a) c i ≡ hits p l ds os d a c i
+  unfolding near hits start
+  near-hits d a h one i q = rw (getD-take j xs i 0 q, s .firsts i q) (sym (meets-apart _ _ _ _ (s .low i q) h (s .span-high)))
+  near-hits d a h two i q =
+      rw (getD-take j ys i 0 q, s .seconds i q)
+      (sym (meets-apart _ _ _ _ (start-low p two _ _ (s .low i q)) (start-low p two d a h) (s .span-high)))
+
+  -- what the code's call tells of a row of delay d at the offset a
+  pub told : (d a b : ℕ) (m : Met) → a < p → b ≡ second p d a → m ≡ firstNear p l (take j xs) (take j ys) a b → m ≡ metAt p l ds os j d a
+  unfolding metAt firstNear
+  told d a b m h e f =
+      f ∙ rw (e, length-take-le j xs (s .xs-length)) (first-hit-cong _ _ j (near-hits d a h))
+
+-- a row that meets nobody is free
+pub nobody-free : (p l : ℕ) (ds os : List ℕ) (n d a : ℕ) → isNobody (metAt p l ds os n d a) ≡ free p l ds os n d a
+unfolding metAt free firstHit
+nobody-free p l ds os n d a = go (some (either (hits p l ds os d a)) n)
+  where
+    go : (b : Bool) → isNobody (cond b (Row (least (either (hits p l ds os d a)) n) (cond (hits p l ds os d a one (least (either (hits p l ds os d a)) n)) 1 2)) Nobody) ≡ not b
+    go true = refl
+    go false = refl

@@ -1,0 +1,17 @@
+-- The two comparisons of `outside`, one after the other.
+use borrow.Author.Tests.{lt-ltb, le-ltb}
+use Rattle.link.specs.Refusal.{outside}
+use borrow.Author.Needs.{needs}
+use Rattle.link.proofs.judge.is_outside.Statement.{statement}
+use Rattle.link.proofs.judge.is_outside.Tie as tie
+
+returns : tie.Need-returns
+unfolding outside
+returns c = simp (lt-ltb _ _ (c .if1 .taken))
+
+returns-2 : tie.Need-returns-2
+unfolding outside
+returns-2 c = simp (le-ltb _ _ (c .if1 .left))
+
+pub is-outside-spec : {M : Type 1} → statement M
+is-outside-spec = tie.close (tie.spec returns returns-2)
