@@ -1,0 +1,1 @@
+-- What the checker promises. Assumes nothing.

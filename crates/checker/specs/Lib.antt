@@ -1,0 +1,3 @@
+-- The definitions that the contracts and promises of `checker` cite.
+pub mod Answer
+pub mod Order
