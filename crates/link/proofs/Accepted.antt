@@ -5,10 +5,10 @@ use mathlib.Core.List.{List, [], _∷_}
 use Prim.Native.Nat.{ℕ, _≤_, _<_}
 use lib.Dec.{ltb, leb, eqb}
 use lib.ListN.{length, getD}
-use borrow.Author.Tests.{ltb-false, leb-false, eqb-true, not-false, le-ltb, lt-leb, eq-eqb}
+use borrow.Author.Tests.{ltb-true, ltb-false, leb-false, eqb-true, not-false, le-ltb, lt-leb, eq-eqb}
 use Rattle.link.specs.Least.{least, some}
-use Rattle.link.specs.Limits.{maxPeriod, maxDelay, maxRows, maxExactRows, badPeriod, badSize, badDelay, badRows, badLength, tooManyRows, badOffset}
-use Rattle.link.specs.Refusal.{first, outside, linkFaults, rowFaults, tableFaults, offsetFaults, planFaults, roomFaults, plannerFaults, exactFaults}
+use Rattle.link.specs.Limits.{maxPeriod, maxDelay, maxRows, maxExactRows, badPeriod, badSize, badDelay, badRows, badLength, tooManyRows, badOffset, noOffset}
+use Rattle.link.specs.Refusal.{first, outside, andThen, linkFaults, rowFaults, tableFaults, offsetFaults, planFaults, roomFaults, plannerFaults, exactFaults}
 use Rattle.link.specs.Range.{GoodTable, GoodPlan, InRange}
 use Rattle.link.specs.Rows.{spanOf}
 use Rattle.link.specs.declared.Link.{Link}
@@ -16,7 +16,7 @@ use Rattle.link.specs.declared.Judged.{Judged}
 use Rattle.link.specs.declared.Judged.the-variants.{Fine, Fault}
 use Rattle.link.proofs.Bools.{or-none}
 use Rattle.link.proofs.Minimum.{none-has, some-none}
-use Rattle.link.proofs.Faults.{fine, pass, passed, front-pass, front-fine, inside}
+use Rattle.link.proofs.Faults.{fine, pass, passed, front-pass, front-fine, inside, allNumbers, number-of}
 
 within : (lo hi x : ℕ) → outside lo hi x ≡ false → (lo ≤ x) × (x ≤ hi)
 unfolding outside
@@ -72,6 +72,15 @@ module _ (k : Link) (ds : List ℕ) where
   pub fine-exact : (room : ℕ) → GoodTable k ds → length ds ≤ room → length ds ≤ maxExactRows → Fine ≡ first (exactFaults k ds room)
   unfolding exactFaults
   fine-exact room g h m = front-pass _ _ Fine (sym (fine-room room g h)) (pass _ _ tooManyRows 0 (le-ltb _ _ m) fine)
+
+  -- the judging gives no number from 13 on
+  pub judged-low : (room n p : ℕ) → first (exactFaults k ds room) ≡ Fault n p → n < noOffset
+  unfolding exactFaults linkFaults rowFaults roomFaults andThen allNumbers
+  judged-low room n p e = ltb-true n noOffset (number-of (λ m. ltb m noOffset) (exactFaults k ds room) n p refl e)
+
+  pub planner-low : (room n p : ℕ) → first (plannerFaults k ds room) ≡ Fault n p → n < noOffset
+  unfolding linkFaults rowFaults roomFaults andThen allNumbers
+  planner-low room n p e = ltb-true n noOffset (number-of (λ m. ltb m noOffset) (plannerFaults k ds room) n p refl e)
 
 module _ (k : Link) (ds os : List ℕ) where
   pub good-plan : first (planFaults k ds os) ≡ Fine → GoodPlan k ds os

@@ -43,6 +43,17 @@ turned p x h =
     ⊎-elim (λ l. inl (l, mod-eq-of-lt l))
     (λ g. let e : x % p ≡ x - p = mod-eq-sub-mod g ∙ mod-eq-of-lt (omega arith) in inr (g, omega arith)) (lt-or-ge x p)
 
+-- how code shows it: below the period, or one turn less
+pub turned-low : (p x : ℕ) → x < p → x ≡ x % p
+turned-low p x h = sym (mod-eq-of-lt h)
+
+pub turned-high : (p x r : ℕ) → r + p ≡ x → r < p → r ≡ x % p
+turned-high p x r e h = go (turned p x (omega arith))
+  where
+    go : {y : ℕ} → Turned p x y → r ≡ y
+    go (inl u) = omega arith
+    go (inr u) = omega arith
+
 module _ (p l a b : ℕ) (ha : a < p) (hb : b < p) (hl : l ≤ p) where
   -- 01's difference test is the linear one
   pub differ-apart : differ p l a b ≡ apartb p l a b

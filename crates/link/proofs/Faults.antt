@@ -1,6 +1,6 @@
 -- How code shows which fault of a list is the first. Assumes nothing.
 use mathlib.Core.Path.{_≡_, refl, sym, _∙_, ap, subst}
-use mathlib.Core.Bool.{Bool, true, false, not, _||_, cond, or-true}
+use mathlib.Core.Bool.{Bool, true, false, not, _&&_, _||_, cond, or-true}
 use mathlib.Core.List.{List, [], _∷_, _++_}
 use Prim.Native.Nat.{ℕ, _≤_, _<_}
 use lib.Dec.{ltb}
@@ -8,7 +8,7 @@ use lib.ListN.{length}
 use borrow.Author.Tests.{lt-ltb, le-ltb}
 use Rattle.link.specs.Least.{least}
 use Rattle.link.specs.Refusal.{Cause, when, atRow, first, outside, andThen}
-use Rattle.link.proofs.Bools.{clash}
+use Rattle.link.proofs.Bools.{clash, and-parts}
 use Rattle.link.specs.declared.Judged.{Judged}
 use Rattle.link.specs.declared.Judged.the-variants.{Fine, Fault}
 
@@ -83,3 +83,21 @@ front-pass xs ys r e f = f ∙ sym (first-append xs ys ∙ ap (λ (j : Judged). 
 pub front-fine : (xs ys : List Cause) → first (andThen xs ys) ≡ Fine → (first xs ≡ Fine) × (first ys ≡ Fine)
 unfolding andThen
 front-fine xs ys e = split (first xs) (first ys) (sym (first-append xs ys) ∙ e)
+
+-- which numbers a list can give
+unfoldable pub allNumbers : (ℕ → Bool) → List Cause → Bool
+allNumbers q [] = true
+allNumbers q (c ∷ cs) = q (c .number) && allNumbers q cs
+
+abbrev numberOf : Judged → ℕ
+numberOf Fine = 0
+numberOf (Fault n p) = n
+
+pub number-of : (q : ℕ → Bool) (cs : List Cause) (n p : ℕ) → allNumbers q cs ≡ true → first cs ≡ Fault n p → q n ≡ true
+unfolding first allNumbers
+number-of q [] n p a e = clash {x = isFine Fine} refl (ap isFine e)
+number-of q (c ∷ cs) n p a e = go (c .applies) e (number-of q cs n p (and-parts (q (c .number)) (allNumbers q cs) a .1))
+  where
+    go : (b : Bool) → cond b (Fault (c .number) (c .place)) (first cs) ≡ Fault n p → (first cs ≡ Fault n p → q n ≡ true) → q n ≡ true
+    go true f rest = rw (← ap numberOf f) (and-parts (q (c .number)) (allNumbers q cs) a .0)
+    go false f rest = rest f

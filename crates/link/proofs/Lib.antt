@@ -8,3 +8,4 @@ pub mod Faults
 pub mod Accepted
 pub mod Filling
 pub mod Unique
+pub mod Promises

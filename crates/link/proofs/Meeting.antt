@@ -1,6 +1,6 @@
 -- How code shows which row is met first, and what that says of a plan. Assumes nothing.
 use mathlib.Core.Path.{_≡_, refl, sym, _∙_, ap}
-use mathlib.Core.Bool.{Bool, true, false, not, cond, _||_}
+use mathlib.Core.Bool.{Bool, true, false, not, cond, _||_, or-true}
 use mathlib.Core.List.{List}
 use Prim.Native.Nat.{ℕ, _<_, _≤_}
 use native.Mathlib.Omega.{arith}
@@ -9,16 +9,22 @@ use lib.ListN.{length, getD, take}
 use lib.Seq.{length-take-le, getD-take}
 use borrow.Author.Tests.{ltb-true}
 use Rattle.link.specs.Least.{least, some}
-use Rattle.link.specs.Rows.{Crossing, one, two, second, startAt, start, hits, either, free, firstHit, metAt, near, firstNear, isNobody}
+use Rattle.link.specs.Rows.{Crossing, one, two, numbered, second, startAt, start, hits, either, free, firstHit, metAt, near, firstNear, isNobody}
 use Rattle.link.specs.declared.Met.{Met}
 use Rattle.link.specs.declared.Met.the-variants.{Nobody, Row}
+use Rattle.link.proofs.Bools.{clash}
 use Rattle.link.proofs.Circle.{meets-apart}
-use Rattle.link.proofs.Minimum.{least-at, least-cong, some-at, some-none}
+use Rattle.link.proofs.Minimum.{least-at, least-is, least-cong, some-at, some-none, some-has}
 
 module _ (h : Crossing → ℕ → Bool) where
   pub neither : (i : ℕ) → h one i ≡ false → h two i ≡ false → either h i ≡ false
   unfolding either
   neither i e f = rw (e, f)
+
+  pub hit-either : (c : Crossing) (i : ℕ) → h c i ≡ true → either h i ≡ true
+  unfolding either
+  hit-either one i e = rw e
+  hit-either two i e = rw (e, or-true)
 
   pub nobody : (n : ℕ) → ((i : ℕ) → i < n → either h i ≡ false) → Nobody ≡ firstHit h n
   unfolding firstHit
@@ -89,3 +95,44 @@ nobody-free p l ds os n d a = go (some (either (hits p l ds os d a)) n)
     go : (b : Bool) → isNobody (cond b (Row (least (either (hits p l ds os d a)) n) (cond (hits p l ds os d a one (least (either (hits p l ds os d a)) n)) 1 2)) Nobody) ≡ not b
     go true = refl
     go false = refl
+
+-- row i is the least of n that is hit, and c the first crossing in which it is
+pub record FirstHit (h : Crossing → ℕ → Bool) (n i : ℕ) (c : Crossing) : Type 0 where
+  pub row : i < n
+  pub before : (k : ℕ) → k < i → either h k ≡ false
+  pub here : h c i ≡ true
+  pub first : (x : Crossing) → h x i ≡ true → numbered c ≤ numbered x
+
+abbrev rowOf : Met → ℕ
+rowOf Nobody = 0
+rowOf (Row i c) = i
+
+abbrev crossingOf : Met → ℕ
+crossingOf Nobody = 0
+crossingOf (Row i c) = c
+
+-- what `firstHit` names is that row and that crossing
+pub hit-is : (h : Crossing → ℕ → Bool) (n i m : ℕ) → firstHit h n ≡ Row i m → (c : Crossing) × (m ≡ numbered c) × FirstHit h n i c
+unfolding firstHit either
+hit-is h n i m e = go (some (either h) n) refl e
+  where
+    at : ℕ
+    at = least (either h) n
+
+    pick : (x : Bool) → h one at ≡ x → at < n → either h at ≡ true → i ≡ at → m ≡ cond x 1 2 → (c : Crossing) × (m ≡ numbered c) × FirstHit h n i c
+    pick true f l s a b =
+        rw (a, b) (one, refl, record { row = l; before = least-is (either h) n .before; here = f; first = λ x _. low x })
+      where
+        low : (x : Crossing) → 1 ≤ numbered x
+        low one = omega arith
+        low two = omega arith
+    pick false f l s a b =
+        rw (a, b) (two, refl, record { row = l; before = least-is (either h) n .before; here = rw f at s; first = high })
+      where
+        high : (x : Crossing) → h x at ≡ true → 2 ≤ numbered x
+        high one g = clash g f
+        high two g = omega arith
+
+    go : (b : Bool) → some (either h) n ≡ b → cond b (Row at (cond (h one at) 1 2)) Nobody ≡ Row i m → (c : Crossing) × (m ≡ numbered c) × FirstHit h n i c
+    go true f g = pick (h one at) refl (ltb-true _ _ f) (some-has (either h) n f) (sym (ap rowOf g)) (sym (ap crossingOf g))
+    go false f g = clash (sym (ap isNobody g)) refl

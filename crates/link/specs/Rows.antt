@@ -16,6 +16,10 @@ spanOf k = k .size
 pub data Crossing : Type 0 where
   one two : Crossing
 
+abbrev pub numbered : Crossing → ℕ
+numbered one = 1
+numbered two = 2
+
 -- "Its start in the second crossing is (A + delay) modulo P"
 unfoldable pub second : ℕ → ℕ → ℕ → ℕ
 second p d a = (a + d) % p
@@ -47,7 +51,7 @@ free p l ds os n d a = not (some (either (hits p l ds os d a)) n)
 
 -- the least row below n that is hit, and the crossing, 1 where both
 unfoldable pub firstHit : (Crossing → ℕ → Bool) → ℕ → Met
-firstHit h n = cond (some (either h) n) (Row (least (either h) n) (cond (h one (least (either h) n)) 1 2)) Nobody
+firstHit h n = cond (some (either h) n) (Row (least (either h) n) (cond (h one (least (either h) n)) (numbered one) (numbered two))) Nobody
 
 -- a row of delay d at the offset a: the least of the n earlier rows that it meets, and the crossing
 unfoldable pub metAt : ℕ → ℕ → List ℕ → List ℕ → ℕ → ℕ → ℕ → Met

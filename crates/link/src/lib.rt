@@ -3,8 +3,9 @@ pub mod judge;
 pub mod limits;
 
 ghost use mathlib.Core.Path.{_≡_};
-ghost use Prim.Native.Nat.{_<_};
-ghost use lib.ListN.{length};
+ghost use Prim.Native.Nat.{_<_, _≤_};
+ghost use mathlib.Core.List.{_++_};
+ghost use lib.ListN.{length, drop};
 ghost use Rattle.link.specs.Slots.{apartb};
 ghost use Rattle.link.specs.Rows.{spanOf, second, firstNear};
 
@@ -39,6 +40,18 @@ pub fn second_start(period: u32, delay: u32, offset: u32) -> u32
 {
     let sum = offset as u64 + delay as u64;
     (sum % (period as u64)) as u32
+}
+
+// The start `by` slots after `at`, round the period: a second start with no division.
+pub fn turn(period: u32, at: u32, by: u32) -> u32
+    requires { ⌜ (at < period) × (by ≤ period) ⌝ }
+    ensures { λ r. ⌜ (r ≡ second period by at) × (r < period) ⌝ }
+{
+    let rest = period - by;
+    if at < rest {
+        return at + by;
+    }
+    at - rest
 }
 
 // Two starts are at least the span from each other, both ways round the period.
@@ -83,4 +96,16 @@ pub fn first_met(period: u32, span: u32, firsts: &[u32], seconds: &[u32], a: u32
         i += 1;
     }
     Met::Nobody
+}
+
+// The front of `to` is replaced by `from`.
+pub fn copy_out(from: &[u32], to: &mut [u32])
+    requires { ⌜ length (now from) ≤ length (now to) ⌝ }
+    ensures { λ _. ⌜ now (to .exit) ≡ now (from .entry) ++ drop (length (now (from .entry))) (now (to .entry)) ⌝ }
+{
+    let mut i = 0;
+    while i < from.len() {
+        to[i] = from[i];
+        i += 1;
+    }
 }

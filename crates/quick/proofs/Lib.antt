@@ -1,0 +1,7 @@
+-- Laws that belong to no one function.
+pub mod Candidates
+pub mod Placing
+pub mod Entries
+pub mod Sound
+pub mod Promises
+pub mod Worked

@@ -1,0 +1,89 @@
+-- Invariant: a and b are the starts at the candidate c, and no candidate before c is open.
+use mathlib.Core.Path.{_≡_, refl, sym, ap, _∙_}
+use mathlib.Core.Bool.{Bool, true, false}
+use Prim.Native.Nat.{ℕ, _+_, _-_, _*_, _≤_, _<_}
+use native.Mathlib.Omega.{arith}
+use native.Mathlib.Nat.{zero-mul}
+use borrow.Author.Count.{below-more, below-none}
+use Rattle.link.specs.Rows.{second, isNobody}
+use Rattle.link.proofs.Minimum.{least-at}
+use Rattle.link.proofs.Meeting.{second-low}
+use Rattle.quick.specs.Ways.{openTo}
+use Rattle.quick.proofs.Candidates.{next-low, next-is, next-second, opens}
+use borrow.Author.Needs.{needs}
+use Rattle.quick.proofs.first_free.Statement.{statement}
+use Rattle.quick.proofs.first_free.Tie as tie
+
+abbrev Inv-loop : tie.InvT-loop
+Inv-loop period span delay firsts seconds step count c₀ a₀ b₀ c a b =
+    (c ≤ count) × (a ≡ c * step) × (b ≡ second period delay a) × ((i : ℕ) → i < c → openTo period span delay firsts seconds step i ≡ false)
+
+abbrev μ-loop : tie.MeasureT-loop
+μ-loop period span delay firsts seconds step count c₀ a₀ b₀ c a b = count - c
+
+second-start-requires : tie.Need-second-start-requires Inv-loop μ-loop
+second-start-requires c κs = search needs
+
+loop-holds : tie.Need-loop-holds Inv-loop μ-loop
+loop-holds c = (omega arith, sym (zero-mul _), c .second-start .ensures, below-none _)
+
+first-met-requires : tie.Need-first-met-requires Inv-loop μ-loop
+first-met-requires c κs = search needs
+
+enum-told : tie.Need-enum-told Inv-loop μ-loop
+enum-told c = search needs
+
+returns : tie.Need-returns Inv-loop μ-loop
+returns c =
+    let l = c .before .before .before .before .loop in
+    let opened = opens _ _ _ _ _ _ _ _ _ _ (l .inv .1) (l .inv .2) (c .before .before .first-met .ensures) ∙ ap isNobody (c .enum-told .given .1) in
+    sym (least-at _ _ _ (omega arith) (l .inv .3) (λ _. opened))
+
+enum-told-2 : tie.Need-enum-told-2 Inv-loop μ-loop
+enum-told-2 c = search needs
+
+add-c : tie.Need-add-c Inv-loop μ-loop
+add-c c = search needs
+
+add-a : tie.Need-add-a Inv-loop μ-loop
+add-a c =
+    let u = c .before .before .before .before .before .before .before .before in
+    omega (arith, next-low (c .before .before .before .before .loop .c) (u .args .count) (u .args .step) (omega arith), u .pre .0 .low, u .pre .0 .period)
+
+turn-requires : tie.Need-turn-requires Inv-loop μ-loop
+turn-requires c κs =
+    let u = c .before .before .before .before .before .before .before .before in
+    let l = c .before .before .before .before .loop in
+    let low : u .args .step ≤ u .args .period = omega (arith, next-low (l .c) (u .args .count) (u .args .step) (omega arith), u .pre .0 .low) in
+    (rw (l .inv .2) (second-low _ _ _ (u .pre .0 .some-period)), low)
+
+loop-less : tie.Need-loop-less Inv-loop μ-loop
+loop-less c = search needs
+
+loop-again : tie.Need-loop-again Inv-loop μ-loop
+loop-again c =
+    let l = c .before .before .before .before .before .loop in
+    let shut = opens _ _ _ _ _ _ _ _ _ _ (l .inv .1) (l .inv .2) (c .before .before .before .first-met .ensures) ∙ ap isNobody (c .before .enum-told2 .given .1) in
+    (omega arith, next-is _ _ _ (l .inv .1), c .turn .ensures .0 ∙ next-second _ _ _ _ _ (l .inv .2), below-more _ _ (l .inv .3) shut)
+
+returns-2 : tie.Need-returns-2 Inv-loop μ-loop
+returns-2 c = sym (least-at _ _ _ (omega arith) (c .before .loop .inv .3) (λ l. absurd (omega arith)))
+
+pub first-free-spec : {M : Type 1} → statement M
+first-free-spec =
+    tie.close
+    (tie.spec
+    Inv-loop
+    μ-loop
+    second-start-requires
+    loop-holds
+    first-met-requires
+    enum-told
+    returns
+    enum-told-2
+    add-c
+    add-a
+    turn-requires
+    loop-less
+    loop-again
+    returns-2)

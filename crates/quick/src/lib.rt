@@ -1,0 +1,119 @@
+// First Fit and Meta-Offset: one planner over the offsets 0, step, .., (count-1) step.
+use link::Judged;
+use link::Link;
+use link::Met;
+use link::limits::MAX_ROWS;
+use link::limits::NO_OFFSET;
+ghost use mathlib.Core.Path.{_≡_};
+ghost use Prim.Native.Nat.{_≤_};
+ghost use lib.ListN.{length};
+ghost use Rattle.link.specs.Limits.{maxRows};
+ghost use Rattle.link.specs.Least.{least};
+ghost use Rattle.quick.specs.Plan.{placed};
+ghost use Rattle.quick.specs.Answer.{said, gives, outcome, firstFit, metaOffset};
+ghost use Rattle.quick.specs.Ways.{Ways, openTo};
+
+pub enum Planned {
+    Plan,
+    Refused { number: u32, place: usize },
+}
+
+// Each row gets the least free offset.
+pub fn first_fit(link: Link, delays: &[u32], offsets: &mut [u32]) -> Planned
+    ensures { λ r. ⌜ gives (said r) (now (offsets .exit)) ≡ firstFit link (now (delays .entry)) (now (offsets .entry)) ⌝ }
+{
+    match link::judge::planner(link, delays, offsets.len()) {
+        Judged::Fault { number, place } => Planned::Refused { number, place },
+        Judged::Fine => plan(
+            link.period,
+            link::span(link),
+            delays,
+            offsets,
+            1,
+            link.period,
+        ),
+    }
+}
+
+// Each row gets the least free multiple of the size.
+pub fn meta_offset(link: Link, delays: &[u32], offsets: &mut [u32]) -> Planned
+    ensures { λ r. ⌜ gives (said r) (now (offsets .exit)) ≡ metaOffset link (now (delays .entry)) (now (offsets .entry)) ⌝ }
+{
+    match link::judge::planner(link, delays, offsets.len()) {
+        Judged::Fault { number, place } => Planned::Refused { number, place },
+        Judged::Fine => {
+            let step = link::span(link);
+            plan(link.period, step, delays, offsets, step, link.period / step)
+        }
+    }
+}
+
+// Places the rows in table order; the lent list is written once all have their offsets.
+fn plan(
+    period: u32,
+    span: u32,
+    delays: &[u32],
+    offsets: &mut [u32],
+    step: u32,
+    count: u32,
+) -> Planned
+    requires { ⌜ (length (now delays) ≤ maxRows) × (length (now delays) ≤ length (now offsets)) ⌝ }
+    requires { ⌜ Ways period span step count ⌝ }
+    ensures { λ r. ⌜ gives (said r) (now (offsets .exit)) ≡ outcome (placed period span (now (delays .entry)) step count (length (now (delays .entry)))) (now (offsets .entry)) ⌝ }
+{
+    let mut firsts = [0u32; MAX_ROWS];
+    let mut seconds = [0u32; MAX_ROWS];
+    let mut j: usize = 0;
+    while j < delays.len() {
+        let d = delays[j];
+        let c = first_free(period, span, d, &firsts[..j], &seconds[..j], step, count);
+        if c >= count {
+            return Planned::Refused {
+                number: NO_OFFSET,
+                place: j,
+            };
+        }
+        let a = c * step;
+        let b = link::second_start(period, d, a);
+        firsts[j] = a;
+        seconds[j] = b;
+        j += 1;
+    }
+    link::copy_out(&firsts[..j], offsets);
+    Planned::Plan
+}
+
+// The least candidate at which a row with this delay meets none of the rows so far, or the count.
+fn first_free(
+    period: u32,
+    span: u32,
+    delay: u32,
+    firsts: &[u32],
+    seconds: &[u32],
+    step: u32,
+    count: u32,
+) -> u32
+    requires { ⌜ Ways period span step count ⌝ }
+    requires { ⌜ length (now firsts) ≡ length (now seconds) ⌝ }
+    ensures { λ r. ⌜ r ≡ least (openTo period span delay (now (firsts .entry)) (now (seconds .entry)) step) count ⌝ }
+{
+    let mut c = 0;
+    let mut a = 0;
+    let mut b = link::second_start(period, delay, 0);
+    while c < count {
+        match link::first_met(period, span, firsts, seconds, a, b) {
+            Met::Nobody => {
+                return c;
+            }
+            Met::Row {
+                row: _,
+                crossing: _,
+            } => {
+                c += 1;
+                a += step;
+                b = link::turn(period, b, step);
+            }
+        }
+    }
+    c
+}
