@@ -1,0 +1,363 @@
+//! Brute force: every rule once more, by listing everything and taking the least.
+//!
+//! Nothing here is fast. It is used by the self-test only, on small cases.
+
+use crate::link::{Refusal, Table};
+use crate::planfile;
+use crate::report::Stretches;
+use std::collections::BTreeSet;
+
+/// The slots that a row uses in a crossing, as a set.
+pub fn slot_set(table: &Table, crossing: u64, row: usize, offset: u64) -> BTreeSet<u64> {
+    let start = if crossing == 1 { offset } else { offset + table.delays[row] };
+    (start..start + table.size).map(|slot| slot % table.period).collect()
+}
+
+/// All collisions of a plan as (later row, earlier row, crossing), the named one first.
+pub fn collisions(table: &Table, offsets: &[u64]) -> BTreeSet<(usize, usize, u64)> {
+    let mut found = BTreeSet::new();
+    for crossing in [2, 1] {
+        let sets: Vec<BTreeSet<u64>> =
+            (0..offsets.len()).map(|row| slot_set(table, crossing, row, offsets[row])).collect();
+        for earlier in 0..sets.len() {
+            for later in earlier + 1..sets.len() {
+                if !sets[earlier].is_disjoint(&sets[later]) {
+                    found.insert((later, earlier, crossing));
+                }
+            }
+        }
+    }
+    found
+}
+
+pub fn clear(table: &Table, offsets: &[u64]) -> bool {
+    collisions(table, offsets).is_empty()
+}
+
+/// All lists of this length with elements below `bound`.
+pub fn all_lists(length: usize, bound: u64) -> impl Iterator<Item = Vec<u64>> {
+    let count = bound.pow(length as u32);
+    (0..count).map(move |mut index| {
+        let mut list = vec![0; length];
+        for element in &mut list {
+            *element = index % bound;
+            index /= bound;
+        }
+        list
+    })
+}
+
+/// Is any choice of offsets at all clear? (Demand 3: all offsets 0 to P-1 for all rows.)
+pub fn some_choice_is_clear(table: &Table) -> bool {
+    all_lists(table.rows(), table.period).any(|offsets| clear(table, &offsets))
+}
+
+/// The least of the offsets looked at that is free for the row after those of the plan.
+fn least_free(table: &Table, plan: &[u64], looked_at: &[u64]) -> Option<u64> {
+    let row = plan.len();
+    let free = |&&offset: &&u64| {
+        let with_row = [plan, &[offset]].concat();
+        !collisions(table, &with_row).iter().any(|&(later, _, _)| later == row)
+    };
+    looked_at.iter().filter(free).min().copied()
+}
+
+/// A quick planner: the plan, or the row without an offset.
+pub fn quick(table: &Table, looked_at: &[u64]) -> Result<Vec<u64>, usize> {
+    let mut plan = Vec::new();
+    while plan.len() < table.rows() {
+        match least_free(table, &plan, looked_at) {
+            Some(offset) => plan.push(offset),
+            None => return Err(plan.len()),
+        }
+    }
+    Ok(plan)
+}
+
+/// A step (j, i, crossing): tuples compare as document 01 orders steps.
+type Step = (usize, usize, u64);
+
+/// A non-empty step sequence in which every step but perhaps the last is good.
+struct Sequence {
+    steps: Vec<Step>,
+    placed: Vec<(usize, u64)>,
+    last_is_good: bool,
+}
+
+/// The offsets of the least whole build, if any, and the number of sequences not later.
+pub fn exact(table: &Table) -> (Option<Vec<u64>>, u64) {
+    if table.rows() == 1 {
+        return (Some(vec![0]), 0);
+    }
+    let mut sequences = Vec::new();
+    extensions(table, &[], &[(0, 0)], &mut sequences);
+    sequences.reverse();
+    // Lists of steps compare step by step, and a list stands before its own extensions.
+    sequences.sort_by(|one, other| one.steps.cmp(&other.steps));
+    let whole = |one: &Sequence| one.last_is_good && one.placed.len() == table.rows();
+    match sequences.iter().position(whole) {
+        None => (None, sequences.len() as u64),
+        Some(index) => {
+            let mut placed = sequences[index].placed.clone();
+            placed.sort();
+            (Some(placed.iter().map(|&(_, offset)| offset).collect()), index as u64 + 1)
+        }
+    }
+}
+
+/// Lists the sequences that go on from these steps.
+fn extensions(table: &Table, steps: &[Step], placed: &[(usize, u64)], found: &mut Vec<Sequence>) {
+    for &(i, offset_of_i) in placed {
+        for j in (0..table.rows()).filter(|&j| placed.iter().all(|&(row, _)| row != j)) {
+            for crossing in [1, 2] {
+                let offset = contact(table, crossing, (i, offset_of_i), j);
+                let steps = [steps, &[(j, i, crossing)]].concat();
+                let last_is_good = placed.iter().all(|&row| apart(table, row, (j, offset)));
+                let placed = [placed, &[(j, offset)]].concat();
+                if last_is_good {
+                    extensions(table, &steps, &placed, found);
+                }
+                found.push(Sequence { steps, placed, last_is_good });
+            }
+        }
+    }
+}
+
+/// The offset at which j starts in the slot right after i's last slot, found by trying all.
+fn contact(table: &Table, crossing: u64, (i, offset): (usize, u64), j: usize) -> u64 {
+    let delay = |row: usize| if crossing == 1 { 0 } else { table.delays[row] };
+    let last = offset + delay(i) + table.size - 1;
+    (0..table.period)
+        .find(|&offset| (offset + delay(j)) % table.period == (last + 1) % table.period)
+        .expect("one offset of P starts in a given slot")
+}
+
+/// No common slot in either crossing.
+fn apart(table: &Table, (i, a): (usize, u64), (j, b): (usize, u64)) -> bool {
+    [1, 2].iter().all(|&crossing| {
+        slot_set(table, crossing, i, a).is_disjoint(&slot_set(table, crossing, j, b))
+    })
+}
+
+/// The number of non-empty step sequences of n rows when every step is good.
+pub fn all_good_sequences(rows: u64, placed: u64) -> u64 {
+    let unplaced = rows - placed;
+    let mut count = 0;
+    for _step in 0..2 * placed * unplaced {
+        count += 1 + all_good_sequences(rows, placed + 1);
+    }
+    count
+}
+
+/// Free slots, stretches and widest stretch of a crossing, each from its definition.
+pub fn stretches(table: &Table, offsets: &[u64], crossing: u64) -> Stretches {
+    let used: BTreeSet<u64> =
+        (0..offsets.len()).flat_map(|row| slot_set(table, crossing, row, offsets[row])).collect();
+    let free: Vec<u64> = (0..table.period).filter(|slot| !used.contains(slot)).collect();
+    let begins = free.iter().filter(|&&slot| slot == 0 || used.contains(&(slot - 1)));
+    let run = |slot: u64| (slot..table.period).take_while(|slot| !used.contains(slot)).count();
+    let widest = free.iter().map(|&slot| run(slot)).max().unwrap_or(0);
+    Stretches { free: free.len() as u64, stretches: begins.count() as u64, widest: widest as u64 }
+}
+
+/// What a call on values takes beside its table.
+#[derive(Default)]
+pub struct Taken<'a> {
+    /// Offsets that must be as many as the rows.
+    pub offsets: Option<&'a [u64]>,
+    /// The length of a lent list that must not be shorter than the rows.
+    pub list: Option<usize>,
+    pub exact: bool,
+}
+
+/// The refusal of a call on values: all its faults with their rank in
+/// "5, 6, 8, 7 (least row), 11, 12, then 17 (least row)", and of these the first.
+pub fn value_fault(table: &Table, taken: &Taken) -> Option<Refusal> {
+    let mut faults: Vec<(u32, usize, u64)> = Vec::new();
+    let rows = table.delays.len();
+    for (row, &offset) in taken.offsets.unwrap_or(&[]).iter().enumerate() {
+        if offset >= table.period {
+            faults.push((7, row, 17));
+        }
+    }
+    if taken.exact && rows >= 9 {
+        faults.push((6, 0, 12));
+    }
+    if taken.offsets.is_some_and(|offsets| offsets.len() != rows)
+        || taken.list.is_some_and(|length| length < rows)
+    {
+        faults.push((5, 0, 11));
+    }
+    for (row, _) in table.delays.iter().enumerate().filter(|(_, &delay)| delay >= 1 << 24) {
+        faults.push((4, row, 7));
+    }
+    if rows == 0 || rows >= 65 {
+        faults.push((3, 0, 8));
+    }
+    if table.size == 0 || table.size > table.period {
+        faults.push((2, 0, 6));
+    }
+    if table.period == 0 || table.period >= 1_000_001 {
+        faults.push((1, 0, 5));
+    }
+    let (_, place, number) = faults.into_iter().min()?;
+    Some(Refusal { number, place: place as u64 })
+}
+
+/// The one text of a table.
+pub fn text_of(table: &Table) -> Vec<u8> {
+    let rows: String = table.delays.iter().map(|delay| format!("{delay}\n")).collect();
+    let (period, size, count) = (table.period, table.size, table.rows());
+    format!("pma 1\n{period} {size}\n{rows}end {count}\n").into_bytes()
+}
+
+/// A table read with no care for its form: whatever numbers stand in the lines.
+pub fn loose_table(text: &[u8]) -> Option<Table> {
+    let text = std::str::from_utf8(text).ok()?;
+    let numbers: Vec<u64> = text
+        .split(|mark: char| !mark.is_ascii_digit())
+        .filter_map(|word| word.parse().ok())
+        .collect();
+    match numbers.as_slice() {
+        [1, period, size, delays @ .., _count] => Some(Table::new(*period, *size, delays)),
+        _ => None,
+    }
+}
+
+/// A text is accepted exactly when it is the text of a table in its ranges.
+pub fn text_is_good(text: &[u8]) -> bool {
+    loose_table(text).is_some_and(|table| table.judge().is_ok() && text_of(&table) == text)
+}
+
+/// The refusal of a text (11 apart): all faults of all its lines, and of these the first.
+pub fn text_fault(text: &[u8]) -> Option<Refusal> {
+    if text.len() > 1024 {
+        return Some(Refusal { number: 1, place: 0 });
+    }
+    let mut faults: Vec<(usize, usize, u64, usize)> = Vec::new();
+    let mut place = 0;
+    for (index, line) in text.split(|&byte| byte == 10).enumerate() {
+        let after = place + line.len() + 1;
+        let is_end = index >= 2 && line.starts_with(b"end ");
+        if after > text.len() {
+            faults.push((index, 0, 3, place));
+        }
+        for (rank, number) in line_faults(index, line).into_iter().enumerate() {
+            faults.push((index, 1 + rank, number, place));
+        }
+        if is_end && after <= text.len() {
+            if after < text.len() {
+                faults.push((index, 9, 10, after));
+            }
+            break;
+        }
+        place = after;
+    }
+    let (_, _, number, place) = faults.into_iter().min()?;
+    Some(Refusal { number, place: place as u64 })
+}
+
+/// The faults of a line, in document 01's order, if all lines before it are right.
+fn line_faults(index: usize, line: &[u8]) -> Vec<u64> {
+    let line = String::from_utf8_lossy(line);
+    let value = |word: &str| word.parse::<u64>().ok().filter(|v| *v < 100_000_000);
+    let number = |word: &str| value(word).filter(|v| v.to_string() == word);
+    let mut faults = Vec::new();
+    match (index, line.strip_prefix("end "), line.split_once(' ')) {
+        (0, _, _) => faults.extend((line != "pma 1").then_some(2)),
+        (1, _, words) => match words.map(|(p, t)| (number(p), number(t))) {
+            Some((Some(period), Some(size))) => {
+                faults.extend((period == 0 || period > 1_000_000).then_some(5));
+                faults.extend((size == 0 || size > period).then_some(6));
+            }
+            _ => faults.push(4),
+        },
+        (_, Some(count), _) => {
+            faults.extend(number(count).is_none().then_some(4));
+            faults.extend((index == 2).then_some(8));
+            faults.extend((number(count) != Some(index as u64 - 2)).then_some(9));
+        }
+        (_, None, _) => {
+            faults.extend(number(&line).is_none().then_some(4));
+            faults.extend(number(&line).is_some_and(|delay| delay >= 1 << 24).then_some(7));
+            faults.extend((index >= 66).then_some(8));
+        }
+    }
+    faults
+}
+
+/// The numbers in the bytes after the tag, of any number of bytes each, with their places;
+/// the last one has no value when its bytes are cut off or none are left.
+fn loose_numbers(file: &[u8]) -> Vec<(usize, usize, Option<u64>)> {
+    let mut numbers = Vec::new();
+    let (mut place, mut value) = (4, 0u64);
+    for (index, &byte) in file.iter().enumerate().skip(4) {
+        let group = u64::from(byte & 0x7F);
+        value = value
+            .saturating_add(group.saturating_mul(128u64.saturating_pow((index - place) as u32)));
+        if byte < 0x80 {
+            numbers.push((place, index + 1 - place, Some(value)));
+            (place, value) = (index + 1, 0);
+        }
+    }
+    numbers.push((place, file.len() - place, None));
+    numbers
+}
+
+/// A plan read with no care for the form of its numbers.
+pub fn loose_plan(file: &[u8]) -> Option<(Table, Vec<u64>)> {
+    if !file.starts_with(b"PMA\x01") {
+        return None;
+    }
+    let mut numbers: Vec<Option<u64>> = loose_numbers(file).iter().map(|n| n.2).collect();
+    let nothing_cut = loose_numbers(file).last()?.1 == 0;
+    numbers.pop();
+    let numbers: Vec<u64> = numbers.into_iter().collect::<Option<_>>()?;
+    let [period, size, rows, ref pairs @ ..] = numbers[..] else { return None };
+    if !nothing_cut || pairs.len() as u64 != rows.saturating_mul(2) {
+        return None;
+    }
+    let delays: Vec<u64> = pairs.iter().step_by(2).copied().collect();
+    let offsets = pairs.iter().skip(1).step_by(2).copied().collect();
+    Some((Table { period, size, delays }, offsets))
+}
+
+/// A file is accepted exactly when it is what the writer gives for a plan.
+pub fn file_is_good(file: &[u8]) -> bool {
+    let Some((table, offsets)) = loose_plan(file) else { return false };
+    let mut output = vec![0; file.len()];
+    let written = planfile::write_plan(&table, &offsets, &mut output);
+    written == Ok(file.len() as u64) && output == file
+}
+
+/// The refusal of a file (11 apart): all faults of all its numbers, and of these the first.
+pub fn file_fault(file: &[u8]) -> Option<Refusal> {
+    if !file.starts_with(b"PMA\x01") {
+        return Some(Refusal { number: 16, place: 0 });
+    }
+    let numbers = loose_numbers(file);
+    let value = |index: usize| numbers.get(index).and_then(|number| number.2).unwrap_or(0);
+    let (period, rows) = (value(0), value(2) as usize);
+    for (index, &(place, length, value)) in numbers.iter().enumerate() {
+        let left_over = index >= 3 && index >= 3 + 2 * rows;
+        let range = match index {
+            0 => (1, 1_000_000, 5),
+            1 => (1, period, 6),
+            2 => (1, 64, 8),
+            odd if odd % 2 == 1 => (0, 16_777_215, 7),
+            _ => (0, period - 1, 17),
+        };
+        let last_is_zero = length > 1 && file.get(place + length - 1) == Some(&0);
+        let form = length > 4 || last_is_zero || value.is_none();
+        let number = match value {
+            None if left_over && length == 0 => break,
+            _ if form || left_over => 16,
+            Some(value) if value < range.0 || value > range.1 => range.2,
+            _ => continue,
+        };
+        return Some(Refusal { number, place: place as u64 });
+    }
+    let (table, offsets) = loose_plan(file)?;
+    let later = collisions(&table, &offsets).first()?.0;
+    Some(Refusal { number: 18, place: later as u64 })
+}

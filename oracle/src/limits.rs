@@ -1,0 +1,333 @@
+//! Hand-picked cases: every limit at, just below and just above, buffers too short, exact and
+//! too long, budgets around the true count, and every two faults at once.
+
+use crate::brute::text_of;
+use crate::cases::{Case, Lent};
+use crate::checker::Record;
+use crate::exact::{ceiling, exact};
+use crate::link::Table;
+use crate::planfile::plan_file;
+
+const MOST: u64 = u32::MAX as u64;
+const BIG_DELAY: u64 = 1 << 24;
+
+pub fn all() -> Vec<Case> {
+    let mut cases = Vec::new();
+    for group in [
+        periods_and_sizes,
+        delays_and_offsets,
+        row_counts,
+        budgets,
+        larger_searches,
+        buffers,
+        two_faults,
+        texts,
+        program_texts,
+        long_texts,
+        files,
+        long_files,
+    ] {
+        cases.extend(group());
+    }
+    cases
+}
+
+/// All calls on values with these numbers, each with buffers of the right length.
+fn value_calls(table: &Table, offsets: &[u64]) -> Vec<Case> {
+    let (table, offsets) = (table.clone(), offsets.to_vec());
+    let lent = Lent::new(table.rows(), 40);
+    let bytes = Lent::new(plan_file(&table, &offsets).len(), 250);
+    let rows = table.delays.iter().zip(&offsets);
+    let records = rows.map(|(&delay, &offset)| Record { delay, offset }).collect();
+    let (period, size) = (table.period, table.size);
+    vec![
+        Case::Check { table: table.clone(), offsets: offsets.clone() },
+        Case::CheckRecords { period, size, records },
+        Case::FirstFit { table: table.clone(), lent },
+        Case::MetaOffset { table: table.clone(), lent },
+        Case::Exact { table: table.clone(), budget: 2000, lent },
+        Case::Report { table: table.clone(), offsets: offsets.clone() },
+        Case::WritePlan { table, offsets, lent: bytes },
+    ]
+}
+
+/// All calls, the readers and the program included, with the numbers of one table.
+fn all_calls(table: &Table, offsets: &[u64]) -> Vec<Case> {
+    let mut cases = value_calls(table, offsets);
+    let lent = Lent::new(table.rows(), 7);
+    let text = text_of(table);
+    cases.push(Case::Program { input: text.clone() });
+    cases.push(Case::ReadTable { text, lent });
+    cases.push(Case::ReadPlan { file: plan_file(table, offsets), delays: lent, offsets: lent });
+    cases
+}
+
+fn periods_and_sizes() -> Vec<Case> {
+    let periods = [0, 1, 2, 999_999, 1_000_000, 1_000_001, MOST];
+    let mut pairs: Vec<(u64, u64)> = periods.iter().map(|&period| (period, 1)).collect();
+    pairs.extend([(0, 0), (MOST, MOST), (10, MOST)]);
+    for period in [1, 10, 1_000_000] {
+        pairs.extend([0, period - 1, period, period + 1].map(|size| (period, size)));
+    }
+    let mut cases = Vec::new();
+    for (period, size) in pairs {
+        cases.extend(all_calls(&Table::new(period, size, &[0]), &[0]));
+    }
+    for (period, size) in [(1, 1), (2, 1), (2, 2), (3, 2), (4, 2), (999_999, 499_999)] {
+        cases.extend(all_calls(&Table::new(period, size, &[3, 5]), &[0, period / 2]));
+    }
+    cases
+}
+
+fn delays_and_offsets() -> Vec<Case> {
+    let (most, above) = (BIG_DELAY - 1, BIG_DELAY);
+    let mut cases = Vec::new();
+    for delays in [[most, 0], [0, most], [above, 0], [0, above], [above, above], [0, MOST]] {
+        cases.extend(all_calls(&Table::new(10, 2, &delays), &[0, 5]));
+    }
+    let table = Table::new(10, 2, &[0, 0]);
+    for offsets in [[9, 4], [4, 9], [10, 0], [0, 10], [11, 10], [MOST, 0], [0, MOST], [9, 0]] {
+        cases.extend(all_calls(&table, &offsets));
+    }
+    let widest = Table::new(1_000_000, 7, &[most, 0]);
+    for offsets in [[999_999, 0], [999_999, 6], [0, 999_999], [1_000_000, 0], [0, 1_000_000]] {
+        cases.extend(value_calls(&widest, &offsets));
+    }
+    cases
+}
+
+fn row_counts() -> Vec<Case> {
+    let mut cases = Vec::new();
+    for rows in [0, 1, 2, 7, 8, 9, 63, 64, 65, 66] {
+        let table = Table::new(70, 1, &vec![0; rows]);
+        let offsets: Vec<u64> = (0..rows as u64).collect();
+        cases.extend(all_calls(&table, &offsets));
+    }
+    for rows in [64, 65] {
+        let table = Table::new(64, 1, &vec![1; rows]);
+        let offsets: Vec<u64> = (0..rows as u64).map(|row| (row + 63) % 64).collect();
+        cases.extend(all_calls(&table, &offsets));
+    }
+    for rows in [8, 9, 10, 64, 65] {
+        for length in [rows - 1, rows, rows + 1] {
+            let (table, lent) = (Table::new(70, 1, &vec![0; rows]), Lent::new(length, 0));
+            cases.push(Case::Exact { table, budget: 49, lent });
+        }
+    }
+    cases.extend([0, 1, 8, 9, 12, 13, 64, 65, MOST].map(|rows| Case::Ceiling { rows }));
+    cases
+}
+
+fn budgets() -> Vec<Case> {
+    let tables = [
+        Table::new(10, 2, &[0, 3, 7]),
+        Table::new(4, 1, &[0, 2, 1, 1]),
+        Table::new(3, 1, &[0, 0, 1]),
+        Table::new(1, 1, &[0]),
+        Table::new(1, 1, &[0, 0]),
+        Table::new(5, 1, &[0, 1, 2, 3, 1]),
+        Table::new(12, 2, &[0, 5, 3, 1, 9]),
+        Table::new(30, 3, &[4, 8, 15, 16, 23, 42]),
+        Table::new(40, 4, &[0, 31, 7, 19, 2, 28, 11]),
+        Table::new(100, 5, &[99, 98, 97, 96, 95, 94, 93, 92]),
+    ];
+    let mut cases = Vec::new();
+    for table in tables {
+        let rows = table.rows() as u64;
+        let count = exact(&table, 20_000, &mut vec![0; table.rows()]).tests;
+        let mut budgets = vec![0, 1, count.saturating_sub(1), count, count + 1, ceiling(rows)];
+        budgets.push(u64::MAX);
+        for budget in budgets {
+            let lent = Lent::new(table.rows(), 500);
+            cases.push(Case::Exact { table: table.clone(), budget, lent });
+        }
+    }
+    cases
+}
+
+/// The handful of searches with many tests, up to 503,210.
+fn larger_searches() -> Vec<Case> {
+    let tables = [
+        (Table::new(6, 1, &[0, 1, 2, 3, 4, 4]), u64::MAX),
+        (Table::new(14, 2, &[0, 3, 6, 9, 12, 1, 4]), 35_060),
+        (Table::new(14, 2, &[0, 3, 6, 9, 12, 1, 4]), 35_059),
+        (Table::new(18, 2, &[9, 13, 1, 14, 1, 5, 1, 7]), 57_397),
+        (Table::new(18, 2, &[9, 13, 1, 14, 1, 5, 1, 7]), 57_396),
+        (Table::new(16, 2, &[6, 15, 2, 10, 13, 9, 4, 8]), ceiling(8)),
+        (Table::new(8, 1, &[0, 0, 0, 0, 0, 0, 0, 1]), 150_000),
+        (Table::new(4, 1, &[0; 8]), u64::MAX),
+    ];
+    let program = |index: usize| Case::Program { input: text_of(&tables[index].0) };
+    let mut cases = vec![program(1), program(3), program(7)];
+    for (table, budget) in tables {
+        let lent = Lent::new(table.rows(), 1);
+        cases.push(Case::Exact { table, budget, lent });
+    }
+    cases
+}
+
+fn buffers() -> Vec<Case> {
+    let table = Table::new(10, 2, &[0, 3, 7]);
+    let offsets = vec![1, 3, 6];
+    let (text, file) = (text_of(&table), plan_file(&table, &offsets));
+    let mut cases = Vec::new();
+    for length in [0, 1, 2, 3, 4, 80] {
+        let lent = Lent::new(length, 1000);
+        let high = Lent::new(length, MOST - 80);
+        cases.push(Case::FirstFit { table: table.clone(), lent: high });
+        cases.push(Case::MetaOffset { table: table.clone(), lent });
+        cases.push(Case::Exact { table: table.clone(), budget: 3, lent });
+        cases.push(Case::Exact { table: table.clone(), budget: 2, lent: high });
+        cases.push(Case::ReadTable { text: text.clone(), lent: high });
+        cases.push(Case::ReadPlan { file: file.clone(), delays: lent, offsets: Lent::new(3, 0) });
+        cases.push(Case::ReadPlan { file: file.clone(), delays: Lent::new(3, 0), offsets: high });
+        cases.push(Case::ReadPlan { file: file.clone(), delays: lent, offsets: lent });
+    }
+    for length in [0, 1, 12, 13, 14, 300] {
+        let (table, offsets) = (table.clone(), offsets.clone());
+        cases.push(Case::WritePlan { table, offsets, lent: Lent::new(length, 3) });
+    }
+    cases
+}
+
+/// A fault of a call on values.
+type Fault = fn(&mut Table, &mut Vec<u64>);
+
+const FAULTS: [Fault; 9] = [
+    |table, _| table.period = 0,
+    |table, _| table.period = 1_000_001,
+    |table, _| table.size = 0,
+    |table, _| table.size = 2_000_000,
+    |table, _| table.delays.clear(),
+    |table, _| table.delays[1..].fill(BIG_DELAY),
+    |_, offsets| offsets[1..].fill(3_000_000),
+    |_, offsets| offsets.truncate(2),
+    |table, _| table.delays.extend([5; 7]),
+];
+
+/// Every two faults at once: the order of judging decides.
+fn two_faults() -> Vec<Case> {
+    let mut cases = Vec::new();
+    for (index, first) in FAULTS.iter().enumerate() {
+        for second in &FAULTS[..index] {
+            let mut table = Table::new(20, 2, &[0, 3, 7]);
+            let mut offsets = vec![0, 2, 2];
+            first(&mut table, &mut offsets);
+            second(&mut table, &mut offsets);
+            cases.extend(value_calls(&table, &offsets));
+            let short = Lent::new(1, 0);
+            cases.push(Case::FirstFit { table: table.clone(), lent: short });
+            cases.push(Case::MetaOffset { table: table.clone(), lent: short });
+            cases.push(Case::Exact { table, budget: 0, lent: short });
+        }
+    }
+    cases
+}
+
+/// Texts with the numbers of line two, of the first row and of line one at their limits.
+fn texts() -> Vec<Case> {
+    let numbers = "999999 1000000 1000001 9999999 99999999 100000000 0 00 01 1 16777215 16777216";
+    let ends = ["\n5\nend 1\n", "\n5\nend 2\n", "\nend 1\n", "\n"];
+    let mut cases = Vec::new();
+    for number in numbers.split(' ') {
+        for lines in [format!("{number} 1"), format!("10 {number}"), format!("10 1\n{number}")] {
+            for end in ends {
+                let text = format!("pma 1\n{lines}{end}").into_bytes();
+                cases.push(Case::ReadTable { text, lent: Lent::new(2, 60) });
+            }
+        }
+    }
+    let words = ["pma 1", "pma 1 ", " pma 1", "pma 01", "PMA 1", "pma 2", "pma1", "pma\t1", "pma"];
+    for word in words {
+        let text = format!("{word}\n10 2\n1\nend 1\n").into_bytes();
+        cases.push(Case::Program { input: text.clone() });
+        cases.push(Case::ReadTable { text, lent: Lent::new(1, 60) });
+    }
+    cases
+}
+
+/// The program on texts with one fault each.
+fn program_texts() -> Vec<Case> {
+    let rows = [
+        "0\nend 1\n\n",
+        "0\nend 1\nx",
+        "0\nend 1\npma 1\n",
+        "16777216\nend 1\n",
+        "0\n99999999\nend 2\n",
+        "end 0\n",
+        "0\nend 1",
+        "0\n3\nend 3\n",
+        "0\n-3\nend 2\n",
+    ];
+    rows.map(|rows| Case::Program { input: format!("pma 1\n10 2\n{rows}").into_bytes() }).to_vec()
+}
+
+/// Texts of 1,023 to 1,025 bytes and of many rows.
+fn long_texts() -> Vec<Case> {
+    let full = text_of(&Table::new(1_000_000, 1_000_000, &[16_777_215; 64]));
+    let mut cases = Vec::new();
+    for length in [1023, 1024, 1025, 1100] {
+        let mut text = full.clone();
+        text.resize(length, 10);
+        cases.push(Case::ReadTable { text, lent: Lent::new(64, 0) });
+        let mut line = b"pma 1\n10 2\n1\n".to_vec();
+        line.resize(length - 1, b'1');
+        line.push(10);
+        cases.push(Case::Program { input: line });
+    }
+    for rows in [63, 64, 65] {
+        for count in [63, 64, 65] {
+            let mut text = text_of(&Table::new(1, 1, &vec![0; rows]));
+            let end = text.len() - 7;
+            text.splice(end.., format!("end {count}\n").into_bytes());
+            cases.push(Case::ReadTable { text, lent: Lent::new(64, 0) });
+        }
+    }
+    for length in [63, 64, 65] {
+        cases.push(Case::ReadTable { text: full.clone(), lent: Lent::new(length, 0) });
+    }
+    cases.push(Case::Program { input: full });
+    cases
+}
+
+/// A good file cut at every place, and with every number in a needlessly long form.
+fn files() -> Vec<Case> {
+    let file = plan_file(&Table::new(300, 20, &[0, 16_384, 16_777_215]), &[0, 100, 299 - 20]);
+    let lent = Lent::new(3, 0);
+    let read = |file: Vec<u8>| Case::ReadPlan { file, delays: lent, offsets: lent };
+    let mut cases: Vec<Case> = (0..=file.len()).map(|end| read(file[..end].to_vec())).collect();
+    for (place, _) in file.iter().enumerate().skip(4).filter(|(_, &byte)| byte < 0x80) {
+        for groups in [&[0][..], &[0x80, 0], &[0x80, 0x80, 0x80, 0], &[0x80, 0x80, 0x80, 1]] {
+            let mut longer = file.clone();
+            longer[place] |= 0x80;
+            longer.splice(place + 1..place + 1, groups.iter().copied());
+            cases.push(read(longer));
+        }
+    }
+    for place in 0..4 {
+        let mut wrong = file.clone();
+        wrong[place] ^= 1;
+        cases.push(read(wrong));
+    }
+    cases
+}
+
+/// The longest file of a clear plan (458 bytes), and the longest file of right form (459),
+/// whose 64 messages of 16,384 slots cannot be clear.
+fn long_files() -> Vec<Case> {
+    let mut cases = Vec::new();
+    for size in [128, 15_000, 16_384] {
+        let table = Table::new(1_000_000, size, &[16_777_215; 64]);
+        let offsets: Vec<u64> = (0..64).map(|row| 20_000 + row * size.min(15_000)).collect();
+        let file = plan_file(&table, &offsets);
+        for length in [file.len() - 1, file.len(), 480] {
+            let (table, offsets) = (table.clone(), offsets.clone());
+            cases.push(Case::WritePlan { table, offsets, lent: Lent::new(length, 9) });
+        }
+        for length in [63, 64, 80] {
+            let (delays, offsets) = (Lent::new(length, 0), Lent::new(64, 0));
+            cases.push(Case::ReadPlan { file: file.clone(), delays, offsets });
+        }
+    }
+    cases
+}

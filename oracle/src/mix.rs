@@ -1,0 +1,340 @@
+//! Random cases of every kind: short and long, valid and damaged, dense and light.
+
+use crate::brute::text_of;
+use crate::cases::{Case, Lent};
+use crate::checker::Record;
+use crate::damage::{damage_file, damage_text};
+use crate::exact::{ceiling, exact, MAX_EXACT_ROWS};
+use crate::link::Table;
+use crate::planfile::plan_file;
+use crate::quick::first_fit;
+use crate::random::Random;
+
+/// No search of a random case makes more tests than this.
+pub const MOST_TESTS: u64 = 20_000;
+
+pub fn case(random: &mut Random) -> Case {
+    match random.below(200) {
+        0..=26 => check_case(random),
+        27..=45 => first_fit_case(random),
+        46..=62 => meta_offset_case(random),
+        63..=92 => exact_case(random),
+        93..=118 => read_table_case(random),
+        119..=136 => write_plan_case(random),
+        137..=162 => read_plan_case(random),
+        163..=177 => report_case(random),
+        178 => Case::Ceiling { rows: random.pick(&[0, 1, 2, 3, 4, 5, 6, 7, 8, 9, 13, 64, 65]) },
+        179..=186 => records_case(random),
+        _ => program_case(random),
+    }
+}
+
+fn check_case(random: &mut Random) -> Case {
+    let (mut table, mut offsets) = plan(random);
+    spoil(random, &mut table, &mut offsets, 25);
+    Case::Check { table, offsets }
+}
+
+fn records_case(random: &mut Random) -> Case {
+    let (mut table, mut offsets) = plan(random);
+    spoil(random, &mut table, &mut offsets, 30);
+    let rows = table.delays.iter().zip(&offsets);
+    let records = rows.map(|(&delay, &offset)| Record { delay, offset }).collect();
+    Case::CheckRecords { period: table.period, size: table.size, records }
+}
+
+fn report_case(random: &mut Random) -> Case {
+    let (mut table, mut offsets) = plan(random);
+    spoil(random, &mut table, &mut offsets, 20);
+    Case::Report { table, offsets }
+}
+
+fn first_fit_case(random: &mut Random) -> Case {
+    let mut table = table(random);
+    spoil(random, &mut table, &mut vec![0], 20);
+    let lent = lent(random, table.rows());
+    Case::FirstFit { table, lent }
+}
+
+fn meta_offset_case(random: &mut Random) -> Case {
+    let mut table = table(random);
+    spoil(random, &mut table, &mut vec![0], 20);
+    let lent = lent(random, table.rows());
+    Case::MetaOffset { table, lent }
+}
+
+fn exact_case(random: &mut Random) -> Case {
+    let mut table = table(random);
+    if random.chance(90) {
+        table.delays.truncate(MAX_EXACT_ROWS);
+    }
+    spoil(random, &mut table, &mut vec![0], 12);
+    let lent = lent(random, table.rows());
+    let budget = budget(random, &table);
+    Case::Exact { table, budget, lent }
+}
+
+/// A budget around the true count, where the count is not too large.
+fn budget(random: &mut Random, table: &Table) -> u64 {
+    let answer = exact(table, MOST_TESTS, &mut vec![0; table.rows()]);
+    let count = answer.tests;
+    if answer.refusal.is_some_and(|refusal| refusal.number == 15) {
+        return match random.below(4) {
+            0 => random.below(MOST_TESTS),
+            1 => random.below(10),
+            _ => random.below(1000),
+        };
+    }
+    match random.below(8) {
+        0 => count.saturating_sub(1),
+        1 => count,
+        2 => count + 1,
+        3 => random.below(count + 1),
+        4 => count.saturating_add(random.below(1 << 40)),
+        5 => ceiling(table.rows() as u64).max(count),
+        6 => random.pick(&[0, 1, 2]),
+        _ => u64::MAX,
+    }
+}
+
+fn read_table_case(random: &mut Random) -> Case {
+    let mut table = table(random);
+    spoil(random, &mut table, &mut vec![0], 20);
+    let mut text = text_of(&table);
+    if random.chance(65) {
+        damage_text(random, &mut text);
+    }
+    let lent = lent(random, table.rows());
+    Case::ReadTable { text, lent }
+}
+
+fn program_case(random: &mut Random) -> Case {
+    let mut table = table(random);
+    let rows = random.between(2, 9) as usize;
+    table.delays.truncate(rows);
+    if random.chance(20) {
+        spoil(random, &mut table, &mut vec![0], 100);
+    }
+    let mut input = text_of(&table);
+    if random.chance(35) {
+        damage_text(random, &mut input);
+    }
+    if searches_long(&input) {
+        return program_case(random);
+    }
+    Case::Program { input }
+}
+
+/// Would the program make more than `MOST_TESTS` tests on this input?
+fn searches_long(input: &[u8]) -> bool {
+    let mut delays = vec![0; 64];
+    let Ok(read) = crate::text::read_table(input, &mut delays) else { return false };
+    delays.truncate(read.rows as usize);
+    let table = Table { period: read.period, size: read.size, delays };
+    let answer = exact(&table, MOST_TESTS, &mut vec![0; table.rows()]);
+    answer.refusal.is_some_and(|refusal| refusal.number == 15)
+}
+
+fn write_plan_case(random: &mut Random) -> Case {
+    let (mut table, mut offsets) = plan(random);
+    let needed = plan_file(&table, &offsets).len();
+    let mut lent = lent(random, needed);
+    lent.first %= 256;
+    if random.chance(20) {
+        spoil(random, &mut table, &mut offsets, 100);
+        lent.length = random.below(10) as usize;
+    }
+    Case::WritePlan { table, offsets, lent }
+}
+
+fn read_plan_case(random: &mut Random) -> Case {
+    let (mut table, mut offsets) = plan(random);
+    let rows = table.rows();
+    spoil(random, &mut table, &mut offsets, 10);
+    let mut file = plan_file(&table, &offsets);
+    if random.chance(60) {
+        file = damage_file(random, &table, &offsets);
+    }
+    let (delays, offsets) = (lent(random, rows), lent(random, rows));
+    Case::ReadPlan { file, delays, offsets }
+}
+
+/// A lent buffer: mostly as long as needed, at times shorter or longer.
+fn lent(random: &mut Random, needed: usize) -> Lent {
+    let length = match random.below(20) {
+        0 | 1 => needed.saturating_sub(1),
+        2 => random.place(needed + 1),
+        3..=5 => needed + random.place(4),
+        _ => needed,
+    };
+    let first = match random.below(20) {
+        0 => u64::from(u32::MAX) - length as u64,
+        1 | 2 => random.below(60_000),
+        _ => random.below(100),
+    };
+    Lent { length, first }
+}
+
+/// A good table of one of several shapes.
+fn table(random: &mut Random) -> Table {
+    let (period, size, rows, delays) = match random.below(100) {
+        0..=34 => small(random),
+        35..=64 => dense(random),
+        65..=80 => medium(random),
+        81..=91 => light(random),
+        92..=93 => many_rows(random),
+        _ => large(random),
+    };
+    let delays = (0..rows).map(|_| random.below(delays)).collect();
+    Table { period, size, delays }
+}
+
+/// Period, size, rows and the bound of the delays.
+type Shape = (u64, u64, u64, u64);
+
+fn small(random: &mut Random) -> Shape {
+    let period = random.between(1, 12);
+    let most = if random.chance(10) { period } else { period.div_ceil(3) };
+    let (size, rows) = (random.between(1, most), random.between(1, 5));
+    (period, size, rows, 2 * period)
+}
+
+/// Little or no slot to spare, at times too few: planners often refuse.
+fn dense(random: &mut Random) -> Shape {
+    let (rows, size) = (random.between(2, 8), random.between(1, 3));
+    let fitting = if random.chance(85) { rows } else { random.between(1, rows) };
+    let period = fitting * size + random.below(4);
+    (period, size, rows, 2 * period)
+}
+
+fn medium(random: &mut Random) -> Shape {
+    let (period, rows) = (random.between(20, 300), random.between(1, 10));
+    let size = random.between(1, period / (2 * rows) + 1);
+    (period, size, rows, 5000)
+}
+
+/// Many slots to spare: every planner finds a plan.
+fn light(random: &mut Random) -> Shape {
+    let (rows, size) = (random.between(2, 8), random.between(1, 20));
+    let period = 4 * rows * size + random.below(50);
+    (period, size, rows, 1 << 24)
+}
+
+fn many_rows(random: &mut Random) -> Shape {
+    let (rows, size) = (random.between(20, 64), random.between(1, 3));
+    let period = random.between(2, 4) * rows * size;
+    (period, size, rows, 100)
+}
+
+/// Long periods, few rows.
+fn large(random: &mut Random) -> Shape {
+    let doublings = random.below(9);
+    let period = random.between(1000, 3900) << doublings;
+    let (period, rows) = (period.min(1_000_000), random.between(1, 4));
+    let size = random.between(1, period / (2 * rows));
+    (period, size, rows, 1 << 24)
+}
+
+/// A good table with offsets in range: clear, nearly clear, or far from it.
+fn plan(random: &mut Random) -> (Table, Vec<u64>) {
+    let mut table = table(random);
+    let period = table.period;
+    let mut offsets: Vec<u64> = table.delays.iter().map(|_| random.below(period)).collect();
+    match random.below(10) {
+        0..=5 => {
+            if let Some(found) = clear_plan(random, &table) {
+                offsets = found;
+            }
+        }
+        6..=7 => {
+            if let Some(found) = clear_plan(random, &table) {
+                offsets = found;
+                let row = random.place(table.rows());
+                let moved = random.between(1, table.size);
+                offsets[row] =
+                    (offsets[row] + period + random.pick(&[moved, period - moved])) % period;
+            }
+        }
+        8 => meet_in_crossing_2(random, &mut table, &mut offsets),
+        _ if random.chance(50) => over_the_end(random, &table, &mut offsets),
+        _ => {}
+    }
+    (table, offsets)
+}
+
+/// A clear plan turned around the circle, if First Fit or a short search finds one.
+fn clear_plan(random: &mut Random, table: &Table) -> Option<Vec<u64>> {
+    let mut offsets = vec![0; table.rows()];
+    if first_fit(table, &mut offsets).is_err() {
+        exact(table, 2000, &mut offsets).refusal.is_none().then_some(())?;
+    }
+    let turn = random.below(table.period);
+    Some(offsets.iter().map(|offset| (offset + turn) % table.period).collect())
+}
+
+/// Rows side by side in crossing 1, one of them brought onto another in crossing 2.
+fn meet_in_crossing_2(random: &mut Random, table: &mut Table, offsets: &mut [u64]) {
+    let (period, size, rows) = (table.period, table.size, table.rows());
+    let turn = random.below(period);
+    for (row, offset) in offsets.iter_mut().enumerate() {
+        *offset = (turn + row as u64 * size) % period;
+    }
+    let (one, other) = (random.place(rows), random.place(rows));
+    let start = offsets[one] + table.delays[one] + random.below(size);
+    table.delays[other] = (start + period - offsets[other]) % period;
+}
+
+/// One message over slot P-1, another near slot 0.
+fn over_the_end(random: &mut Random, table: &Table, offsets: &mut [u64]) {
+    let (one, other) = (random.place(offsets.len()), random.place(offsets.len()));
+    offsets[one] = table.period - random.between(1, table.size);
+    offsets[other] = random.below(table.size);
+}
+
+/// Puts one to three faults into the numbers, in `percent` of 100 calls.
+fn spoil(random: &mut Random, table: &mut Table, offsets: &mut Vec<u64>, percent: u64) {
+    if !random.chance(percent) {
+        return;
+    }
+    for _ in 0..random.pick(&[1, 1, 2, 3]) {
+        spoil_once(random, table, offsets);
+    }
+}
+
+fn spoil_once(random: &mut Random, table: &mut Table, offsets: &mut Vec<u64>) {
+    let most = u64::from(u32::MAX);
+    let any_above = |random: &mut Random, least: u64| match random.below(3) {
+        0 => least.min(most),
+        1 => most,
+        _ => random.between(least.min(most), most),
+    };
+    match random.below(13) {
+        0 => table.period = 0,
+        1 => table.period = any_above(random, 1_000_001),
+        2 => table.size = 0,
+        3 => table.size = any_above(random, table.period + 1),
+        4 => {
+            table.delays.clear();
+            offsets.truncate(random.place(2));
+        }
+        5 => {
+            table.delays.resize(65, 0);
+            offsets.resize(65, 0);
+        }
+        6..=8 if table.rows() > 0 => {
+            for _ in 0..random.between(1, 2) {
+                let row = random.place(table.rows());
+                table.delays[row] = any_above(random, 1 << 24);
+            }
+        }
+        9 => offsets.push(0),
+        10 => offsets.truncate(offsets.len().saturating_sub(1)),
+        11..=12 if !offsets.is_empty() => {
+            for _ in 0..random.between(1, 2) {
+                let row = random.place(offsets.len());
+                offsets[row] = any_above(random, table.period);
+            }
+        }
+        _ => {}
+    }
+}

@@ -1,0 +1,617 @@
+//! The self-test: every rule against brute force, every vector, one line a group.
+
+use crate::brute::{self, all_lists, Taken};
+use crate::cases::{line_numbers, line_text, Case, Lent};
+use crate::checker::{check, check_records, Record, Verdict};
+use crate::exact::{ceiling, exact};
+use crate::limits;
+use crate::link::{meet, meet_by_differences, meet_by_slots, Refusal, Table};
+use crate::mix;
+use crate::planfile::{read_plan, write_plan, TAG};
+use crate::program;
+use crate::quick::{first_fit, meta_offset};
+use crate::random::Random;
+use crate::report::report;
+use crate::text::read_table;
+use crate::vectors;
+
+/// A group gives the number of comparisons made, or says what differs.
+type Group = fn() -> Result<u64, String>;
+
+const GROUPS: [(&str, Group); 20] = [
+    ("meeting: slot sets against differences", meeting),
+    ("checker: the least of all collisions", checker),
+    ("quick planners: the least of all free offsets", quick_planners),
+    ("exact: all step sequences listed and sorted", exact_by_listing),
+    ("exact: longer builds, random tables", exact_by_listing_longer),
+    ("exact: none against all offsets of all rows", exact_none),
+    ("exact: every budget", exact_budgets),
+    ("exact: shorter messages and rows taken out", exact_after_easing),
+    ("ceilings: formula, recursion, never passed", ceilings),
+    ("report: slot by slot", reports),
+    ("order of judging: all faults, the first of them", value_orders),
+    ("texts: all short ones accepted as rendered", short_texts),
+    ("texts: damaged ones, all faults listed", damaged_texts),
+    ("files: all short ones accepted as written", short_files),
+    ("files: damaged ones, all faults listed", damaged_files),
+    ("files: written and read back", files_read_back),
+    ("program: what it prints", programs),
+    ("lent buffers: kept on refusal, tail kept", lent_buffers),
+    ("case lines: read back, within their limits", case_lines),
+    ("vectors: document 01 and readings", all_vectors),
+];
+
+pub fn run() -> Result<(), String> {
+    for (name, group) in GROUPS {
+        let count = group().map_err(|what| format!("{name}: MISMATCH {what}"))?;
+        println!("{name}: {count}");
+    }
+    println!("selftest ok");
+    Ok(())
+}
+
+/// Both sides must be the same.
+fn same<T: PartialEq + std::fmt::Debug>(
+    what: impl std::fmt::Debug,
+    got: T,
+    expected: T,
+) -> Result<(), String> {
+    if got == expected {
+        return Ok(());
+    }
+    Err(format!("{what:?}: got {got:?}, expected {expected:?}"))
+}
+
+/// All tables with this number of rows and this period: all sizes, all delays below P.
+fn tables(rows: usize, period: u64) -> impl Iterator<Item = Table> {
+    (1..=period).flat_map(move |size| {
+        all_lists(rows, period).map(move |delays| Table { period, size, delays })
+    })
+}
+
+/// All tables of one to four rows: up to `most` slots for one or two rows, fewer for more.
+fn small_tables(most: u64) -> impl Iterator<Item = Table> {
+    let periods = [most, most, most - 2, most - 3];
+    (1..=4)
+        .flat_map(move |rows| (1..=periods[rows - 1]).flat_map(move |period| tables(rows, period)))
+}
+
+fn meeting() -> Result<u64, String> {
+    let mut count = 0;
+    for period in 1..=24u64 {
+        for size in 1..=period {
+            let table = Table::new(period, size, &[0]);
+            for (a, b) in (0..period).flat_map(|a| (0..period).map(move |b| (a, b))) {
+                let sets = [a, b].map(|start| brute::slot_set(&table, 1, 0, start));
+                let expected = !sets[0].is_disjoint(&sets[1]);
+                same((period, size, a, b), meet_by_slots(a, b, period, size), expected)?;
+                same((period, size, a, b), meet_by_differences(a, b, period, size), expected)?;
+                count += 2;
+            }
+        }
+    }
+    let mut random = Random::new(1);
+    for _ in 0..20_000 {
+        let period = random.between(1, 300);
+        let size = random.between(1, period);
+        let (a, b) = (random.below(period), random.below(period));
+        let table = Table::new(period, size, &[0]);
+        let sets = [a, b].map(|start| brute::slot_set(&table, 1, 0, start));
+        same((period, size, a, b), meet(a, b, period, size), !sets[0].is_disjoint(&sets[1]))?;
+        count += 1;
+    }
+    Ok(count)
+}
+
+fn check_both(table: &Table, offsets: &[u64]) -> Result<(), String> {
+    let expected = brute::collisions(table, offsets).first().copied();
+    let got = match check(table, offsets) {
+        Verdict::Collision(named) => Some((named.later, named.earlier, named.crossing)),
+        Verdict::Clear => None,
+        Verdict::Refused(refusal) => return Err(format!("refused {refusal:?}")),
+    };
+    same((table, offsets), got, expected)?;
+    let rows = table.delays.iter().zip(offsets);
+    let records: Vec<Record> = rows.map(|(&delay, &offset)| Record { delay, offset }).collect();
+    let answer = check_records(table.period, table.size, &records);
+    same((table, offsets), answer, check(table, offsets))
+}
+
+fn checker() -> Result<u64, String> {
+    let mut count = 0;
+    for table in small_tables(6) {
+        for offsets in all_lists(table.rows(), table.period) {
+            check_both(&table, &offsets)?;
+            count += 1;
+        }
+    }
+    let mut random = Random::new(2);
+    for _ in 0..20_000 {
+        if let Case::Check { table, offsets } = mix::case(&mut random) {
+            if table.period < 2000 && !matches!(check(&table, &offsets), Verdict::Refused(_)) {
+                check_both(&table, &offsets)?;
+                count += 1;
+            }
+        }
+    }
+    Ok(count)
+}
+
+/// Both quick planners on a good table.
+fn quick_both(table: &Table) -> Result<(), String> {
+    let refused = |row: usize| Refusal { number: 13, place: row as u64 };
+    let mut list = vec![0; table.rows()];
+    let got = first_fit(table, &mut list).map(|()| list.clone());
+    let every: Vec<u64> = (0..table.period).collect();
+    same(table, got, brute::quick(table, &every).map_err(refused))?;
+    let got = meta_offset(table, &mut list).map(|()| list.clone());
+    let all_fit = |offset: &u64| offset + table.size <= table.period;
+    let multiples = (0..table.period).step_by(table.size as usize).filter(all_fit);
+    let multiples: Vec<u64> = multiples.collect();
+    same(table, got, brute::quick(table, &multiples).map_err(refused))
+}
+
+fn quick_planners() -> Result<u64, String> {
+    let mut count = 0;
+    for table in small_tables(8) {
+        quick_both(&table)?;
+        count += 2;
+    }
+    let mut random = Random::new(10);
+    for _ in 0..5000 {
+        if let Case::FirstFit { table, .. } = mix::case(&mut random) {
+            if table.judge().is_ok() && table.period < 80 {
+                quick_both(&table)?;
+                count += 2;
+            }
+        }
+    }
+    Ok(count)
+}
+
+/// The exact planner with the ceiling as budget: the offsets, if any, and the tests.
+fn exact_answer(table: &Table) -> Result<(Option<Vec<u64>>, u64), String> {
+    let mut list = vec![0; table.rows()];
+    let answer = exact(table, ceiling(table.rows() as u64), &mut list);
+    match answer.refusal {
+        None => Ok((Some(list), answer.tests)),
+        Some(Refusal { number: 14, place: 0 }) => Ok((None, answer.tests)),
+        Some(refusal) => Err(format!("{table:?}: refused {refusal:?}")),
+    }
+}
+
+fn exact_by_listing() -> Result<u64, String> {
+    let mut count = 0;
+    for table in small_tables(8) {
+        same(&table, exact_answer(&table)?, brute::exact(&table))?;
+        count += 1;
+    }
+    Ok(count)
+}
+
+fn exact_by_listing_longer() -> Result<u64, String> {
+    let mut random = Random::new(3);
+    let mut count = 0;
+    while count < 400 {
+        let rows = if count < 390 { random.between(4, 5) } else { 6 };
+        let size = random.between(1, 3);
+        let period = rows * size + random.below(4);
+        let delays = (0..rows).map(|_| random.below(3 * period)).collect();
+        let table = Table { period, size, delays };
+        same(&table, exact_answer(&table)?, brute::exact(&table))?;
+        count += 1;
+    }
+    Ok(count)
+}
+
+fn exact_none() -> Result<u64, String> {
+    let mut count = 0;
+    for table in small_tables(8) {
+        let (plan, _) = exact_answer(&table)?;
+        same(&table, plan.is_some(), brute::some_choice_is_clear(&table))?;
+        if let Some(offsets) = plan {
+            same(&table, brute::clear(&table, &offsets), true)?;
+        }
+        count += 1;
+    }
+    Ok(count)
+}
+
+fn exact_budgets() -> Result<u64, String> {
+    let mut count = 0;
+    for table in small_tables(7) {
+        let (plan, tests) = exact_answer(&table)?;
+        for budget in (0..=tests + 1).chain([u64::MAX]) {
+            let mut list = vec![77; table.rows()];
+            let answer = exact(&table, budget, &mut list);
+            let number = match &plan {
+                _ if tests > budget => 15,
+                Some(_) => 0,
+                None => 14,
+            };
+            same((&table, budget), answer.refusal.map_or(0, |refusal| refusal.number), number)?;
+            same((&table, budget), answer.tests, tests.min(budget))?;
+            let untouched = vec![77; table.rows()];
+            let expected = plan.clone().filter(|_| number == 0).unwrap_or(untouched);
+            same((&table, budget), list, expected)?;
+            count += 1;
+        }
+    }
+    Ok(count)
+}
+
+/// "the same table with shorter messages, or with rows taken out but at least one left, never
+/// gets "none" at any budget"
+fn exact_after_easing() -> Result<u64, String> {
+    let mut count = 0;
+    for table in small_tables(8) {
+        if exact_answer(&table)?.0.is_none() {
+            continue;
+        }
+        for size in 1..table.size {
+            let shorter = Table { size, ..table.clone() };
+            same(&shorter, exact_answer(&shorter)?.0.is_some(), true)?;
+            count += 1;
+        }
+        for row in 0..table.rows() * usize::from(table.rows() > 1) {
+            let mut fewer = table.clone();
+            fewer.delays.remove(row);
+            same(&fewer, exact_answer(&fewer)?.0.is_some(), true)?;
+            count += 1;
+        }
+    }
+    Ok(count)
+}
+
+fn ceilings() -> Result<u64, String> {
+    let table = [0, 2, 20, 342, 10_472, 509_930, 36_086_652, 3_493_657_790];
+    let mut count = 0;
+    for (index, &value) in table.iter().enumerate() {
+        same(("ceiling", index + 1), ceiling(index as u64 + 1), value)?;
+        if index < 7 {
+            same(("sequences", index + 1), brute::all_good_sequences(index as u64 + 1, 1), value)?;
+        }
+        count += 1;
+    }
+    for rows in [0, 9, 10, 64, u64::MAX] {
+        same(("ceiling", rows), ceiling(rows), 0)?;
+        count += 1;
+    }
+    for table in small_tables(8) {
+        let (_, tests) = exact_answer(&table)?;
+        same(&table, tests <= ceiling(table.rows() as u64), true)?;
+        count += 1;
+    }
+    Ok(count)
+}
+
+fn reports() -> Result<u64, String> {
+    let mut count = 0;
+    for table in small_tables(6) {
+        for offsets in all_lists(table.rows(), table.period) {
+            let expected = match brute::collisions(&table, &offsets).first() {
+                Some(&(later, _, _)) => Err(Refusal { number: 18, place: later as u64 }),
+                None => Ok([1, 2].map(|crossing| brute::stretches(&table, &offsets, crossing))),
+            };
+            same((&table, &offsets), report(&table, &offsets), expected)?;
+            count += 1;
+        }
+    }
+    Ok(count)
+}
+
+/// The judging of calls on values, over good and bad values of everything at once.
+fn value_orders() -> Result<u64, String> {
+    let most = u64::from(u32::MAX);
+    let mut random = Random::new(4);
+    let mut count = 0;
+    for _ in 0..60_000 {
+        let period = random.pick(&[0, 1, 5, 5, 20, 20, 1_000_000, 1_000_001, most]);
+        let size = random.pick(&[0, 1, 1, 2, 5, 6, 20, 1_000_000, most]);
+        let rows = random.pick(&[0, 1, 1, 2, 3, 8, 9, 64, 65]);
+        let delay = [0, 1, 7, 7, 7, 7, 16_777_215, random.pick(&[3, 16_777_216, most])];
+        let delays: Vec<u64> = (0..rows).map(|_| random.pick(&delay)).collect();
+        let length = random.pick(&[rows, rows, rows, rows + 1, rows.max(1) - 1]);
+        let offset = [0, 1, 4, 4, random.pick(&[2, 5, most])];
+        let offsets: Vec<u64> = (0..length).map(|_| random.pick(&offset)).collect();
+        value_order(&Table { period, size, delays }, &offsets)?;
+        count += 1;
+    }
+    Ok(count)
+}
+
+/// All calls on values against the first of all faults; 13 to 15 and 18 are others' matter.
+fn value_order(table: &Table, offsets: &[u64]) -> Result<(), String> {
+    let early = |refusal: &Refusal| ![13, 14, 15, 18].contains(&refusal.number);
+    let mut list = vec![0; offsets.len()];
+    let lent = Taken { list: Some(list.len()), ..Taken::default() };
+    let expected = brute::value_fault(table, &lent);
+    if table.period < 1000 || expected.is_some() {
+        same(table, first_fit(table, &mut list).err().filter(early), expected)?;
+        same(table, meta_offset(table, &mut list).err().filter(early), expected)?;
+    }
+    let expected = brute::value_fault(table, &Taken { exact: true, ..lent });
+    same(table, exact(table, 9, &mut list).refusal.filter(early), expected)?;
+    let given = Taken { offsets: Some(offsets), ..Taken::default() };
+    let expected = brute::value_fault(table, &given);
+    let verdict = match check(table, offsets) {
+        Verdict::Refused(refusal) => Some(refusal),
+        _ => None,
+    };
+    same((table, offsets), verdict, expected)?;
+    if table.period < 1000 || expected.is_some() {
+        same((table, offsets), report(table, offsets).err().filter(early), expected)?;
+    }
+    let mut output = vec![0; 500];
+    same((table, offsets), write_plan(table, offsets, &mut output).err().filter(early), expected)
+}
+
+/// One text: accepted exactly when it is the one rendering of its table, else refused with
+/// the first of all its faults.
+fn text_once(text: &[u8]) -> Result<(), String> {
+    let mut delays = vec![0; 64];
+    let shown = String::from_utf8_lossy(text);
+    match read_table(text, &mut delays) {
+        Ok(read) => {
+            delays.truncate(read.rows as usize);
+            let table = Table { period: read.period, size: read.size, delays };
+            same(&shown, brute::text_of(&table), text.to_vec())?;
+            same(&shown, brute::text_is_good(text), true)?;
+            same(&shown, None, brute::text_fault(text))
+        }
+        Err(refusal) => {
+            same(&shown, brute::text_is_good(text), false)?;
+            same(&shown, Some(refusal), brute::text_fault(text))
+        }
+    }
+}
+
+/// All texts of `pma 1` and up to nine pieces.
+fn short_texts() -> Result<u64, String> {
+    let pieces: [&[u8]; 5] = [b"1", b"0", b" ", b"\n", b"end "];
+    let mut count = 0;
+    for length in 0..=9 {
+        for list in all_lists(length, pieces.len() as u64) {
+            let body: Vec<&[u8]> = list.iter().map(|&piece| pieces[piece as usize]).collect();
+            text_once(&[b"pma 1\n", &body.concat()[..]].concat())?;
+            count += 1;
+        }
+    }
+    Ok(count)
+}
+
+fn damaged_texts() -> Result<u64, String> {
+    let mut random = Random::new(5);
+    let mut count = 0;
+    let made = (0..200_000).map(|_| mix::case(&mut random));
+    for case in limits::all().into_iter().chain(made) {
+        if let Case::ReadTable { text, .. } | Case::Program { input: text } = case {
+            text_once(&text)?;
+            count += 1;
+        }
+    }
+    Ok(count)
+}
+
+/// One file: accepted exactly when the writer gives it for the plan read, else refused with
+/// the first of all its faults.
+fn file_once(file: &[u8]) -> Result<(), String> {
+    let (mut delays, mut offsets) = (vec![0; 64], vec![0; 64]);
+    match read_plan(file, &mut delays, &mut offsets) {
+        Ok(read) => {
+            delays.truncate(read.rows as usize);
+            offsets.truncate(read.rows as usize);
+            let table = Table { period: read.period, size: read.size, delays };
+            let mut output = vec![0; file.len()];
+            same(file, write_plan(&table, &offsets, &mut output), Ok(file.len() as u64))?;
+            same(file, &output[..], file)?;
+            same(file, brute::file_is_good(file), true)?;
+            same(file, None, brute::file_fault(file))
+        }
+        Err(refusal) => {
+            same(file, brute::file_is_good(file), false)?;
+            same(file, Some(refusal), brute::file_fault(file))
+        }
+    }
+}
+
+/// All files of the tag and up to seven bytes of a small alphabet, up to five of a larger.
+fn short_files() -> Result<u64, String> {
+    let alphabets: [(&[u8], usize); 2] =
+        [(&[0, 1, 2, 3, 4, 0x80, 0x81], 7), (&[0, 1, 2, 5, 64, 65, 0x7F, 0x80, 0x82, 0xFF], 5)];
+    let mut count = 0;
+    for (alphabet, longest) in alphabets {
+        for length in 0..=longest {
+            for list in all_lists(length, alphabet.len() as u64) {
+                let body: Vec<u8> = list.iter().map(|&index| alphabet[index as usize]).collect();
+                file_once(&[&TAG, &body[..]].concat())?;
+                count += 1;
+            }
+        }
+    }
+    Ok(count)
+}
+
+fn damaged_files() -> Result<u64, String> {
+    let mut random = Random::new(6);
+    let mut count = 0;
+    let made = (0..100_000).map(|_| mix::case(&mut random));
+    for case in limits::all().into_iter().chain(made) {
+        if let Case::ReadPlan { file, .. } = case {
+            file_once(&file)?;
+            count += 1;
+        }
+    }
+    Ok(count)
+}
+
+/// "A plan written to a file reads back the same"
+fn files_read_back() -> Result<u64, String> {
+    let mut random = Random::new(7);
+    let mut count = 0;
+    for _ in 0..50_000 {
+        let Case::WritePlan { table, offsets, .. } = mix::case(&mut random) else { continue };
+        let mut output = vec![0; 459];
+        let Ok(length) = write_plan(&table, &offsets, &mut output) else { continue };
+        let (mut delays, mut read_offsets) = (vec![0; 64], vec![0; 64]);
+        let file = &output[..length as usize];
+        let read = read_plan(file, &mut delays, &mut read_offsets);
+        let read = read.map_err(|refusal| format!("{table:?}: refused {refusal:?}"))?;
+        let rows = read.rows as usize;
+        same(&table, Table::new(read.period, read.size, &delays[..rows]), table.clone())?;
+        same(&table, &read_offsets[..rows], &offsets[..])?;
+        count += 1;
+    }
+    Ok(count)
+}
+
+/// What the program prints, from the listed sequences and the listed faults.
+fn printed(input: &[u8]) -> Option<String> {
+    if let Some(refusal) = brute::text_fault(input) {
+        return Some(format!("refused {} {}\n", refusal.number, refusal.place));
+    }
+    let table = brute::loose_table(input)?;
+    if table.rows() > 8 {
+        return Some("refused 12 0\n".to_string());
+    }
+    if ceiling(table.rows() as u64) > 100_000 {
+        return None;
+    }
+    Some(match brute::exact(&table) {
+        (None, tests) => format!("none {tests}\n"),
+        (Some(offsets), tests) => {
+            let lines: Vec<String> = offsets.iter().map(|offset| format!("{offset}\n")).collect();
+            format!("found {tests}\n{}", lines.concat())
+        }
+    })
+}
+
+fn programs() -> Result<u64, String> {
+    let mut random = Random::new(11);
+    let mut inputs: Vec<Vec<u8>> = small_tables(6).map(|table| brute::text_of(&table)).collect();
+    for _ in 0..20_000 {
+        if let Case::Program { input } = mix::case(&mut random) {
+            inputs.push(input);
+        }
+    }
+    let mut count = 0;
+    for input in inputs {
+        if let Some(expected) = printed(&input) {
+            let got = String::from_utf8_lossy(&program::run(&input)).to_string();
+            same(String::from_utf8_lossy(&input), got, expected)?;
+            count += 1;
+        }
+    }
+    Ok(count)
+}
+
+/// What stood in the buffers of a case, what stands there now, and how many elements of each
+/// an answer may write.
+fn buffers(case: &Case, answer: &[u64]) -> Vec<(Vec<u64>, Vec<u64>, usize)> {
+    let split = |fields: usize, lents: &[(Vec<u64>, u64)]| {
+        let mut from = fields;
+        let mut buffers = Vec::new();
+        for (before, written) in lents {
+            let after = answer[from..from + before.len()].to_vec();
+            buffers.push((before.clone(), after, *written as usize));
+            from += before.len();
+        }
+        assert_eq!(from, answer.len());
+        buffers
+    };
+    match case {
+        Case::FirstFit { table, lent } | Case::MetaOffset { table, lent } => {
+            split(2, &[(lent.numbers(), table.rows() as u64)])
+        }
+        Case::Exact { table, lent, .. } => split(3, &[(lent.numbers(), table.rows() as u64)]),
+        Case::ReadTable { lent, .. } => split(5, &[(lent.numbers(), answer[4])]),
+        Case::WritePlan { lent, .. } => {
+            let bytes = lent.bytes().iter().map(|&byte| u64::from(byte)).collect();
+            split(3, &[(bytes, answer[2])])
+        }
+        Case::ReadPlan { delays, offsets, .. } => {
+            split(5, &[(delays.numbers(), answer[4]), (offsets.numbers(), answer[4])])
+        }
+        _ => Vec::new(),
+    }
+}
+
+/// "Every refusal .. leaves all output buffers with the bytes and numbers they had"; "A lent
+/// buffer longer than needed keeps its tail"; "Fields of an answer that don't apply are 0".
+fn lent_buffers() -> Result<u64, String> {
+    let mut random = Random::new(8);
+    let mut count = 0;
+    for _ in 0..30_000 {
+        let case = mix::case(&mut random);
+        let answer = case.answer();
+        for (before, after, written) in buffers(&case, &answer) {
+            let kept_from = if answer[0] == 0 { written } else { 0 };
+            same(&case, &after[kept_from..], &before[kept_from..])?;
+            count += 1;
+        }
+        let fields = match case {
+            Case::ReadTable { .. } | Case::ReadPlan { .. } => 2..5,
+            Case::WritePlan { .. } => 2..3,
+            Case::Exact { .. } if answer[0] != 14 && answer[0] != 15 => 2..3,
+            Case::Check { .. } | Case::CheckRecords { .. } | Case::Report { .. } => 2..answer.len(),
+            _ => continue,
+        };
+        let all_zero = answer[fields].iter().all(|&field| field == 0);
+        same(&case, answer[0] == 0 || all_zero, true)?;
+    }
+    Ok(count)
+}
+
+/// Does a case keep the limits that its reader may count on?
+fn within_limits(case: &Case) -> bool {
+    let (lists, bytes, lents, byte_lent): (Vec<&[u64]>, &[u8], Vec<&Lent>, usize) = match case {
+        Case::Check { table, offsets } | Case::Report { table, offsets } => {
+            (vec![&table.delays, offsets], &[], vec![], 0)
+        }
+        Case::FirstFit { table, lent }
+        | Case::MetaOffset { table, lent }
+        | Case::Exact { table, lent, .. } => (vec![&table.delays], &[], vec![lent], 0),
+        Case::ReadTable { text, lent } => (vec![], text, vec![lent], 0),
+        Case::WritePlan { table, offsets, lent } => {
+            (vec![&table.delays, offsets], &[], vec![], lent.length)
+        }
+        Case::ReadPlan { file, delays, offsets } => (vec![], file, vec![delays, offsets], 0),
+        Case::Program { input } => (vec![], input, vec![], 0),
+        Case::CheckRecords { records, .. } if records.len() > 66 => return false,
+        Case::CheckRecords { .. } | Case::Ceiling { .. } => (vec![], &[], vec![], 0),
+    };
+    let lent_fits = |lent: &&Lent| lent.length <= 80 && lent.first + lent.length as u64 <= 1 << 32;
+    let budgets = usize::from(matches!(case, Case::Exact { .. }));
+    let wide = case.numbers().iter().filter(|&&number| number > u64::from(u32::MAX)).count();
+    lists.iter().all(|list| list.len() <= 80)
+        && lents.iter().all(lent_fits)
+        && bytes.len() <= 1100
+        && byte_lent <= 480
+        && wide <= budgets
+}
+
+fn case_lines() -> Result<u64, String> {
+    let mut random = Random::new(9);
+    let mut count = 0;
+    let made: Vec<Case> = (0..50_000).map(|_| mix::case(&mut random)).collect();
+    for case in limits::all().into_iter().chain(made) {
+        let line = line_text(&case.numbers());
+        let read = line_numbers(&line).and_then(|numbers| Case::from_numbers(&numbers));
+        same(&line, read.as_ref(), Some(&case))?;
+        same(&line, line.len() < 6000 && within_limits(&case), true)?;
+        count += 1;
+    }
+    Ok(count)
+}
+
+fn all_vectors() -> Result<u64, String> {
+    let mut count = 0;
+    for vector in vectors::all() {
+        same((vector.name, &vector.case), vector.case.answer(), vector.answer)?;
+        count += 1;
+    }
+    // The program's first example once more, as bytes.
+    let output = program::run(b"pma 1\n10 2\n0\n3\n7\nend 3\n");
+    same("01 program", output, b"found 3\n0\n2\n5\n".to_vec())?;
+    Ok(count + 1)
+}

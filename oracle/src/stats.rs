@@ -1,0 +1,85 @@
+//! How often each kind of case ends in each refusal or verdict.
+
+use crate::cases::{Case, KINDS};
+use std::collections::BTreeMap;
+
+/// The outcomes that each kind can have; the kinds are those of `KINDS`.
+const POSSIBLE: [&[&str]; 11] = [
+    &["clear", "crossing 1", "crossing 2", "5", "6", "8", "7", "11", "17"],
+    &["plan", "5", "6", "8", "7", "11", "13"],
+    &["plan", "5", "6", "8", "7", "11", "13"],
+    &["plan", "5", "6", "8", "7", "11", "12", "14", "15"],
+    &["read", "1", "2", "3", "4", "5", "6", "7", "8", "9", "10", "11"],
+    &["written", "5", "6", "8", "7", "11 offsets", "17", "18", "11 output"],
+    &["read", "16 tag", "16 number", "16 left over", "5", "6", "8", "7", "17", "18", "11"],
+    &["stretches", "5", "6", "8", "7", "11", "17", "18"],
+    &["value", "0"],
+    &["clear", "crossing 1", "crossing 2", "5", "6", "8", "7", "17"],
+    &["found", "none", "1", "2", "3", "4", "5", "6", "7", "8", "9", "10", "12"],
+];
+
+/// One line a kind: every possible outcome with its count, `MISSING` where there is none.
+pub fn table(cases: &[Case]) -> String {
+    let mut counts: BTreeMap<(usize, String), u64> = BTreeMap::new();
+    for case in cases {
+        *counts.entry((case.kind(), outcome(case))).or_default() += 1;
+    }
+    let mut lines = format!("{} cases\n", cases.len());
+    for (index, possible) in POSSIBLE.iter().enumerate() {
+        let mut line = format!("{:2} {:13}", index + 1, KINDS[index]);
+        for name in *possible {
+            match counts.remove(&(index + 1, name.to_string())) {
+                Some(count) => line += &format!(" | {name}: {count}"),
+                None => line += &format!(" | {name}: MISSING"),
+            }
+        }
+        lines += &(line + "\n");
+    }
+    for ((kind, name), count) in counts {
+        lines += &format!("not expected: kind {kind} outcome {name}: {count}\n");
+    }
+    lines
+}
+
+fn outcome(case: &Case) -> String {
+    let answer = case.answer();
+    match case {
+        Case::Program { .. } => program_outcome(&answer[1..]),
+        Case::Ceiling { .. } if answer[0] > 0 => "value".to_string(),
+        Case::WritePlan { table, offsets, .. } if answer[0] == 11 => {
+            let unequal = table.rows() != offsets.len();
+            if unequal { "11 offsets" } else { "11 output" }.to_string()
+        }
+        Case::ReadPlan { file, .. } if answer[0] == 16 => form_fault(file, answer[1] as usize),
+        _ if answer[0] > 0 => answer[0].to_string(),
+        Case::Check { .. } | Case::CheckRecords { .. } => match answer[4] {
+            0 => "clear".to_string(),
+            crossing => format!("crossing {crossing}"),
+        },
+        Case::ReadTable { .. } | Case::ReadPlan { .. } => "read".to_string(),
+        Case::WritePlan { .. } => "written".to_string(),
+        Case::Report { .. } => "stretches".to_string(),
+        Case::Ceiling { .. } => "0".to_string(),
+        _ => "plan".to_string(),
+    }
+}
+
+/// The first word that the program prints, or its refusal number.
+fn program_outcome(output: &[u64]) -> String {
+    let text: String = output.iter().map(|&byte| char::from(byte as u8)).collect();
+    let words: Vec<&str> = text.split_whitespace().collect();
+    if words[0] == "refused" { words[1] } else { words[0] }.to_string()
+}
+
+/// Whether 16 is for the tag, a number or bytes left over: cut off at the place, a file
+/// with bytes left over has another answer.
+fn form_fault(file: &[u8], place: usize) -> String {
+    let mut lists = (vec![0; 64], vec![0; 64]);
+    let front = crate::planfile::read_plan(&file[..place], &mut lists.0, &mut lists.1);
+    match (place, front) {
+        (0, _) => "16 tag",
+        (_, Err(refusal)) if refusal.number == 16 => "16 number",
+        _ => "16 left over",
+    }
+    .to_string()
+}

@@ -1,0 +1,560 @@
+//! Vectors: every worked table of document 01 and every example of its decided readings,
+//! each with the answer written down by hand.
+
+use crate::cases::{counted, Case, Lent};
+use crate::checker::Record;
+use crate::link::Table;
+use crate::planfile::TAG;
+
+pub struct Vector {
+    pub name: &'static str,
+    pub case: Case,
+    pub answer: Vec<u64>,
+}
+
+/// The first worked table of document 01.
+const FIRST: &[u64] = &[0, 3, 7];
+const FIRST_TEXT: &str = "pma 1\n10 2\n0\n3\n7\nend 3\n";
+const FIRST_FILE: &[u8] = &[10, 2, 3, 0, 0, 3, 2, 7, 5];
+
+pub fn all() -> Vec<Vector> {
+    let mut vectors = Vec::new();
+    for group in [
+        worked_planners,
+        worked_others,
+        errors_to_avoid,
+        general,
+        general_orders,
+        crossings,
+        step_order,
+        exact_planner,
+        checker_and_report,
+        text_ends,
+        text_line_two,
+        text_end_line,
+        text_numbers,
+        text_limits,
+        plan_file_numbers,
+        plan_file_orders,
+        writer,
+        program,
+    ] {
+        vectors.extend(group());
+    }
+    vectors
+}
+
+// How the cases are made. A lent list of m elements starts at 90, lent bytes at 200.
+
+fn list(length: usize) -> Lent {
+    Lent::new(length, 90)
+}
+
+fn is(name: &'static str, case: Case, answer: &[u64]) -> Vector {
+    Vector { name, case, answer: answer.to_vec() }
+}
+
+fn check(period: u64, size: u64, delays: &[u64], offsets: &[u64]) -> Case {
+    Case::Check { table: Table::new(period, size, delays), offsets: offsets.to_vec() }
+}
+
+fn records(period: u64, size: u64, pairs: &[(u64, u64)]) -> Case {
+    let records = pairs.iter().map(|&(delay, offset)| Record { delay, offset }).collect();
+    Case::CheckRecords { period, size, records }
+}
+
+fn first_fit(period: u64, size: u64, delays: &[u64], length: usize) -> Case {
+    Case::FirstFit { table: Table::new(period, size, delays), lent: list(length) }
+}
+
+fn meta_offset(period: u64, size: u64, delays: &[u64], length: usize) -> Case {
+    Case::MetaOffset { table: Table::new(period, size, delays), lent: list(length) }
+}
+
+fn exact(period: u64, size: u64, delays: &[u64], budget: u64, length: usize) -> Case {
+    Case::Exact { table: Table::new(period, size, delays), budget, lent: list(length) }
+}
+
+fn report(period: u64, size: u64, delays: &[u64], offsets: &[u64]) -> Case {
+    Case::Report { table: Table::new(period, size, delays), offsets: offsets.to_vec() }
+}
+
+fn write(period: u64, size: u64, delays: &[u64], offsets: &[u64], length: usize) -> Case {
+    let table = Table::new(period, size, delays);
+    Case::WritePlan { table, offsets: offsets.to_vec(), lent: Lent::new(length, 200) }
+}
+
+/// A text read into a list of this length.
+fn text_into(text: &[u8], length: usize) -> Case {
+    Case::ReadTable { text: text.to_vec(), lent: list(length) }
+}
+
+/// A text refused, with a list of two that stays as it was.
+fn text_refused(name: &'static str, text: &[u8], number: u64, place: u64) -> Vector {
+    is(name, text_into(text, 2), &[number, place, 0, 0, 0, 90, 91])
+}
+
+/// The same for a text of one line one and one line two that are right, then these lines.
+fn rows_refused(name: &'static str, lines: &str, number: u64, place: u64) -> Vector {
+    text_refused(name, format!("pma 1\n10 2\n{lines}").as_bytes(), number, place)
+}
+
+/// A file: the tag and these bytes.
+fn file(body: &[u8]) -> Vec<u8> {
+    [&TAG, body].concat()
+}
+
+fn file_into(bytes: &[u8], delays: usize, offsets: usize) -> Case {
+    Case::ReadPlan { file: bytes.to_vec(), delays: list(delays), offsets: Lent::new(offsets, 70) }
+}
+
+/// A file refused, with lists of two that stay as they were.
+fn file_refused(name: &'static str, bytes: &[u8], number: u64, place: u64) -> Vector {
+    is(name, file_into(bytes, 2, 2), &[number, place, 0, 0, 0, 90, 91, 70, 71])
+}
+
+fn body_refused(name: &'static str, body: &[u8], number: u64, place: u64) -> Vector {
+    file_refused(name, &file(body), number, place)
+}
+
+fn prints(name: &'static str, input: &str, output: &str) -> Vector {
+    let case = Case::Program { input: input.as_bytes().to_vec() };
+    Vector { name, case, answer: counted(output.as_bytes()) }
+}
+
+/// Sixty-four good one-digit rows after `10 2`; the next line begins at byte 139.
+fn after_64_rows(rest: &str) -> String {
+    format!("pma 1\n10 2\n{}{rest}", "5\n".repeat(64))
+}
+
+// Document 01, the worked tables.
+
+fn worked_planners() -> Vec<Vector> {
+    let full = u64::MAX;
+    vec![
+        is("01 table 1 First Fit", first_fit(10, 2, FIRST, 3), &[0, 0, 0, 2, 5]),
+        is("01 table 1 Meta-Offset", meta_offset(10, 2, FIRST, 3), &[0, 0, 0, 2, 6]),
+        is("01 table 1 exact", exact(10, 2, FIRST, full, 3), &[0, 0, 3, 0, 2, 5]),
+        is("01 table 2 First Fit", first_fit(4, 1, &[0, 2, 1, 1], 4), &[13, 2, 90, 91, 92, 93]),
+        is("01 table 2 Meta", meta_offset(4, 1, &[0, 2, 1, 1], 4), &[13, 2, 90, 91, 92, 93]),
+        is("01 table 2 exact", exact(4, 1, &[0, 2, 1, 1], full, 4), &[0, 0, 16, 0, 3, 1, 2]),
+        is("01 table 3 exact", exact(3, 1, &[0, 0, 1], full, 3), &[14, 0, 16, 90, 91, 92]),
+        is("01 table 3 budget 16", exact(3, 1, &[0, 0, 1], 16, 3), &[14, 0, 16, 90, 91, 92]),
+        is("01 table 3 budget 15", exact(3, 1, &[0, 0, 1], 15, 3), &[15, 0, 15, 90, 91, 92]),
+        is("01 table 4 First Fit", first_fit(5, 2, &[0, 4], 2), &[0, 0, 0, 3]),
+        is("01 table 5 exact", exact(1, 1, &[0], full, 1), &[0, 0, 0, 0]),
+        is("01 table 5 budget 0", exact(1, 1, &[0], 0, 1), &[0, 0, 0, 0]),
+        is("01 table 6 First Fit", first_fit(1, 1, &[0, 0], 2), &[13, 1, 90, 91]),
+        is("01 table 6 exact", exact(1, 1, &[0, 0], full, 2), &[14, 0, 2, 90, 91]),
+        is("01 eight rows", exact(16, 2, &[0; 8], full, 8), &[0, 0, 49, 0, 2, 4, 6, 8, 10, 12, 14]),
+        is(
+            "01 nine rows",
+            exact(18, 2, &[0; 9], full, 9),
+            &[12, 0, 0, 90, 91, 92, 93, 94, 95, 96, 97, 98],
+        ),
+    ]
+}
+
+fn worked_others() -> Vec<Vector> {
+    vec![
+        is("01 stretches", report(5, 2, &[0], &[1]), &[0, 0, 3, 2, 2, 3, 2, 2]),
+        is("01 collision", check(10, 2, FIRST, &[0, 2, 4]), &[0, 0, 0, 2, 2]),
+        is(
+            "01 file written",
+            write(10, 2, FIRST, &[0, 2, 5], 13),
+            &[0, 0, 13, 0x50, 0x4D, 0x41, 1, 10, 2, 3, 0, 0, 3, 2, 7, 5],
+        ),
+        is("01 file read", file_into(&file(FIRST_FILE), 3, 3), &[0, 0, 10, 2, 3, 0, 3, 7, 0, 2, 5]),
+        body_refused("01 number AC 82 00", &[0xAC, 0x82, 0], 16, 4),
+        is(
+            "01 number AC 02",
+            file_into(&file(&[0xAC, 2, 1, 1, 0, 0]), 1, 1),
+            &[0, 0, 300, 1, 1, 0, 0],
+        ),
+        is(
+            "01 16,777,215",
+            file_into(&file(&[5, 1, 1, 255, 255, 255, 7, 0]), 1, 1),
+            &[0, 0, 5, 1, 1, 16_777_215, 0],
+        ),
+        is("01 size 6 with period 5", check(5, 6, &[0], &[0]), &[6, 0, 0, 0, 0]),
+        is("01 size 6 with period 5", first_fit(5, 6, &[0], 1), &[6, 0, 90]),
+        text_refused("01 size 6 with period 5", b"pma 1\n5 6\n", 6, 6),
+        body_refused("01 size 6 with period 5", &[5, 6], 6, 5),
+        is("01 first table read", text_into(FIRST_TEXT.as_bytes(), 3), &[0, 0, 10, 2, 3, 0, 3, 7]),
+        prints("01 program", FIRST_TEXT, "found 3\n0\n2\n5\n"),
+        prints("01 newline lost", "pma 1\n10 2\n0\n37\nend 3\n", "refused 9 16\n"),
+    ]
+}
+
+/// Document 01, "Errors a planner could fall into".
+fn errors_to_avoid() -> Vec<Vector> {
+    vec![
+        is("01 over slot P-1", check(10, 2, &[0, 0], &[9, 0]), &[0, 0, 0, 1, 1]),
+        is("01 over slot P-1", check(10, 2, &[9, 0], &[0, 5]), &[0, 0, 0, 0, 0]),
+        is("01 over slot P-1", check(10, 2, &[9, 5], &[0, 5]), &[0, 0, 0, 1, 2]),
+        is("01 contacts in crossing 2", exact(4, 1, &[0, 2, 1, 1], 16, 4), &[0, 0, 16, 0, 3, 1, 2]),
+        rows_refused("01 last line cut", "0\n3\nend 2", 3, 15),
+        rows_refused("01 last line cut", "0\n3\nend ", 3, 15),
+    ]
+}
+
+// Readings A to G and O.
+
+fn general() -> Vec<Vector> {
+    vec![
+        is("A1", check(10, 2, &[0], &[0, 0]), &[11, 0, 0, 0, 0]),
+        is("A1 shorter", check(10, 2, &[0, 0], &[0]), &[11, 0, 0, 0, 0]),
+        is("A1 report", report(10, 2, &[0], &[0, 0]), &[11, 0, 0, 0, 0, 0, 0, 0]),
+        is("A1 writer", write(10, 2, &[0], &[0, 0], 2), &[11, 0, 0, 200, 201]),
+        is("A2 tail", first_fit(10, 2, FIRST, 5), &[0, 0, 0, 2, 5, 93, 94]),
+        is("A2 short", first_fit(10, 2, FIRST, 2), &[11, 0, 90, 91]),
+        is("A2 tail", meta_offset(10, 2, FIRST, 4), &[0, 0, 0, 2, 6, 93]),
+        is("A2 tail", exact(10, 2, FIRST, 3, 4), &[0, 0, 3, 0, 2, 5, 93]),
+        is("A2 text short", text_into(FIRST_TEXT.as_bytes(), 2), &[11, 0, 0, 0, 0, 90, 91]),
+        is("A2 text tail", text_into(FIRST_TEXT.as_bytes(), 4), &[0, 0, 10, 2, 3, 0, 3, 7, 93]),
+        is(
+            "A2 delays short",
+            file_into(&file(FIRST_FILE), 2, 3),
+            &[11, 0, 0, 0, 0, 90, 91, 70, 71, 72],
+        ),
+        is(
+            "A2 offsets short",
+            file_into(&file(FIRST_FILE), 3, 2),
+            &[11, 0, 0, 0, 0, 90, 91, 92, 70, 71],
+        ),
+        is(
+            "A2 file tails",
+            file_into(&file(FIRST_FILE), 4, 5),
+            &[0, 0, 10, 2, 3, 0, 3, 7, 93, 0, 2, 5, 73, 74],
+        ),
+        is("A6 collision has number 0", check(10, 2, &[0, 0], &[0, 1]), &[0, 0, 0, 1, 1]),
+        is("A10 size 0", check(5, 0, &[0], &[0]), &[6, 0, 0, 0, 0]),
+        is("A10 period and size 0", check(0, 0, &[0], &[0]), &[5, 0, 0, 0, 0]),
+    ]
+}
+
+fn general_orders() -> Vec<Vector> {
+    let big = 1 << 24;
+    let nine_kept: Vec<u64> = (90..98).collect();
+    vec![
+        is(
+            "A3 nine rows, eight lent",
+            exact(18, 2, &[0; 9], 1, 8),
+            &[&[11, 0, 0], &nine_kept[..]].concat(),
+        ),
+        is("A3 65 rows, one lent", first_fit(90, 1, &[0; 65], 1), &[8, 0, 90]),
+        is("A3 offset bad and missing", check(10, 2, &[0, 0], &[10]), &[11, 0, 0, 0, 0]),
+        is("A3 11 before 13", first_fit(1, 1, &[0, 0], 1), &[11, 0, 90]),
+        is("A3 11 before 14", exact(1, 1, &[0, 0], 9, 1), &[11, 0, 0, 90]),
+        is("A3 11 before 15", exact(1, 1, &[0, 0], 1, 1), &[11, 0, 0, 90]),
+        is("A3 7 before 11", first_fit(10, 2, &[0, big], 1), &[7, 1, 90]),
+        is("A4 65 rows", check(90, 1, &[big; 65], &[0; 65]), &[8, 0, 0, 0, 0]),
+        is("A4 no rows", check(10, 2, &[], &[]), &[8, 0, 0, 0, 0]),
+        text_refused("A4 text", after_64_rows("16777216\n").as_bytes(), 7, 139),
+        is("A5 check", check(10, 2, &[0, big], &[99, 0]), &[7, 1, 0, 0, 0]),
+        is("A5 records", records(10, 2, &[(0, 99), (big, 0)]), &[7, 1, 0, 0, 0]),
+        body_refused("A5 file", &[10, 2, 2, 0, 99, 0x80, 0x80, 0x80, 8, 0], 17, 8),
+        is("A8 no records", records(10, 2, &[]), &[8, 0, 0, 0, 0]),
+        is("A9 any u32", check(u64::from(u32::MAX), 1, &[0], &[0]), &[5, 0, 0, 0, 0]),
+        is("A9 any u32", check(10, u64::from(u32::MAX), &[0], &[0]), &[6, 0, 0, 0, 0]),
+        is("A9 any u32", check(10, 1, &[u64::from(u32::MAX)], &[0]), &[7, 0, 0, 0, 0]),
+        is("A9 any u32", check(10, 1, &[0], &[u64::from(u32::MAX)]), &[17, 0, 0, 0, 0]),
+    ]
+}
+
+fn crossings() -> Vec<Vector> {
+    vec![
+        is("B1", check(10, 2, &[0, 13], &[0, 2]), &[0, 0, 0, 0, 0]),
+        is("B1", check(10, 2, &[0, 18], &[0, 2]), &[0, 0, 0, 1, 2]),
+        is("B1 file", file_into(&file(&[10, 2, 1, 13, 4]), 1, 1), &[0, 0, 10, 2, 1, 13, 4]),
+        is(
+            "B1 text",
+            text_into(b"pma 1\n10 2\n16777215\nend 1\n", 1),
+            &[0, 0, 10, 2, 1, 16_777_215],
+        ),
+        is("B2", first_fit(4, 1, &[0, 2, 1, 1], 4), &[13, 2, 90, 91, 92, 93]),
+        is("B3", first_fit(3, 2, &[0, 0], 2), &[13, 1, 90, 91]),
+        is("B3", first_fit(3, 2, &[0, 1], 2), &[13, 1, 90, 91]),
+        is("B3", meta_offset(3, 2, &[7, 5], 2), &[13, 1, 90, 91]),
+        is("B3 P = T", meta_offset(3, 3, &[7], 1), &[0, 0, 0]),
+        is("B3 P = T", check(3, 3, &[7, 7], &[0, 1]), &[0, 0, 0, 1, 1]),
+    ]
+}
+
+/// C1: tables on which taking the placed rows in the order of placing, not by row number,
+/// gives another number of tests or other offsets.
+fn step_order() -> Vec<Vector> {
+    let full = u64::MAX;
+    vec![
+        is("C1", exact(11, 2, &[13, 12, 7, 2], full, 4), &[0, 0, 26, 0, 4, 2, 9]),
+        is("C1", exact(15, 3, &[10, 27, 23, 4], full, 4), &[0, 0, 27, 0, 8, 5, 12]),
+        is("C1", exact(5, 1, &[8, 3, 5, 4], full, 4), &[0, 0, 49, 0, 2, 1, 3]),
+        is("C1", exact(10, 2, &[12, 13, 13, 17], 73, 4), &[0, 0, 73, 0, 3, 5, 7]),
+        is("C1", exact(10, 2, &[12, 13, 13, 17], 72, 4), &[15, 0, 72, 90, 91, 92, 93]),
+        is("C1", exact(6, 1, &[9, 3, 11, 0, 0], 314, 5), &[0, 0, 314, 0, 4, 1, 5, 2]),
+        is("C1", exact(6, 1, &[9, 3, 11, 0, 0], 313, 5), &[15, 0, 313, 90, 91, 92, 93, 94]),
+        is("C1", exact(18, 3, &[16, 33, 15, 10, 30], full, 5), &[0, 0, 265, 0, 6, 9, 3, 15]),
+        is("C1", exact(8, 1, &[0, 8, 15, 12, 13, 12], full, 6), &[0, 0, 336, 0, 1, 6, 2, 5, 7]),
+        is("C1", exact(14, 2, &[0, 14, 14, 24, 22, 12], 272, 6), &[0, 0, 272, 0, 2, 6, 8, 4, 10]),
+    ]
+}
+
+fn exact_planner() -> Vec<Vector> {
+    let ceilings = [0, 0, 2, 20, 342, 10_472, 509_930, 36_086_652, 3_493_657_790, 0, 0, 0, 0, 0];
+    let mut vectors: Vec<Vector> = ceilings
+        .iter()
+        .enumerate()
+        .map(|(rows, &value)| is("C6", Case::Ceiling { rows: rows as u64 }, &[value]))
+        .collect();
+    let most = u64::from(u32::MAX);
+    vectors.extend([
+        is("C6", Case::Ceiling { rows: 64 }, &[0]),
+        is("C6", Case::Ceiling { rows: most }, &[0]),
+        is("C4 budget 2", exact(10, 2, FIRST, 2, 3), &[15, 0, 2, 90, 91, 92]),
+        is("C4 budget 3", exact(10, 2, FIRST, 3, 3), &[0, 0, 3, 0, 2, 5]),
+        is("C4 budget 4", exact(10, 2, FIRST, 4, 3), &[0, 0, 3, 0, 2, 5]),
+        is("C4 budget 0, one row", exact(7, 3, &[5], 0, 1), &[0, 0, 0, 0]),
+        is("C4 budget 0, two rows", exact(7, 3, &[5, 5], 0, 2), &[15, 0, 0, 90, 91]),
+        is("C4 budget 15", exact(3, 1, &[0, 0, 1], 15, 3), &[15, 0, 15, 90, 91, 92]),
+        is("C5 14", exact(3, 1, &[0, 0, 1], 17, 3), &[14, 0, 16, 90, 91, 92]),
+        is("C9 65 rows", exact(90, 1, &[0; 65], 5, 0), &[8, 0, 0]),
+        is(
+            "C9 12",
+            exact(90, 1, &[0; 10], 0, 10),
+            &[12, 0, 0, 90, 91, 92, 93, 94, 95, 96, 97, 98, 99],
+        ),
+    ]);
+    vectors
+}
+
+fn checker_and_report() -> Vec<Vector> {
+    let meeting = [10, 2, 4, 0, 0, 0, 5, 0, 5, 0, 0];
+    vec![
+        is("D1", check(10, 2, &[0; 4], &[0, 5, 5, 0]), &[0, 0, 1, 2, 1]),
+        is("D1 records", records(10, 2, &[(0, 0), (0, 5), (0, 5), (0, 0)]), &[0, 0, 1, 2, 1]),
+        body_refused("D2 reader", &meeting, 18, 2),
+        is("D2 report", report(10, 2, &[0; 4], &[0, 5, 5, 0]), &[18, 2, 0, 0, 0, 0, 0, 0]),
+        is("D2 writer", write(10, 2, &[0; 4], &[0, 5, 5, 0], 1), &[18, 2, 0, 200]),
+        is("D3", report(10, 2, &[3], &[0]), &[0, 0, 8, 1, 8, 8, 2, 5]),
+        is("D4", report(4, 2, &[0, 0], &[0, 2]), &[0, 0, 0, 0, 0, 0, 0, 0]),
+        is("D4", report(1, 1, &[9], &[0]), &[0, 0, 0, 0, 0, 0, 0, 0]),
+        is("D5", report(5, 2, &[0], &[1]), &[0, 0, 3, 2, 2, 3, 2, 2]),
+    ]
+}
+
+fn text_ends() -> Vec<Vector> {
+    vec![
+        text_refused("E1", b"xyz", 3, 0),
+        text_refused("E1", b"pma 1\n10 x", 3, 6),
+        text_refused("E1", b"pma 1", 3, 0),
+        text_refused("E2", b"pma 1\n10 2\n1\n", 3, 13),
+        text_refused("E2", b"pma 1\n10 2\n", 3, 11),
+        text_refused("E2", b"pma 1\n", 3, 6),
+        text_refused("E2", b"", 3, 0),
+        text_refused("E10", &[b'x'; 1025], 1, 0),
+        text_refused("E10", &[10; 1025], 1, 0),
+        text_refused("E10", &[b'x'; 1024], 3, 0),
+        text_refused("E10", &[10; 1024], 2, 0),
+        text_refused("E14", b"end 3\n", 2, 0),
+        text_refused("E14", b"pma 1\nend 3\n", 4, 6),
+        text_refused("E15", b"\n", 2, 0),
+        text_refused("E15", b"pma 1\n\n", 4, 6),
+        rows_refused("E15", "\n", 4, 11),
+        rows_refused("E15", "1\n\nend 1\n", 4, 13),
+        text_refused("E11 return", b"pma 1\r\n10 2\r\n", 2, 0),
+        text_refused("E11 BOM", b"\xEF\xBB\xBFpma 1\n", 2, 0),
+        text_refused("E11 return", b"pma 1\n10 2\r\n", 4, 6),
+        rows_refused("E11 tab", "\t1\n", 4, 11),
+        rows_refused("E11 NUL", "1\0\n", 4, 11),
+        text_refused("E11 high byte", b"pma 1\n10 2\n1\xB2\n", 4, 11),
+        rows_refused("E11 return", "1\nend 1\r\n", 4, 13),
+    ]
+}
+
+fn text_line_two() -> Vec<Vector> {
+    let line_two = |name, line: &str, number| {
+        text_refused(name, format!("pma 1\n{line}\n").as_bytes(), number, 6)
+    };
+    vec![
+        line_two("E3", "0 x", 4),
+        line_two("E3", "0 0", 5),
+        line_two("E3", "0 1", 5),
+        line_two("E3", "1000001 1", 5),
+        line_two("E3", "10 11", 6),
+        line_two("E3", "10 0", 6),
+        line_two("E3", "10  2", 4),
+        line_two("E3", "10 2 ", 4),
+        line_two("E3", " 10 2", 4),
+        line_two("E3", "10", 4),
+        line_two("E3", "10 2 0", 4),
+        line_two("E3", "10 02", 4),
+        line_two("E3", "010 2", 4),
+        line_two("E4", "end 0", 4),
+        line_two("E8", "12345678 1", 5),
+        line_two("E8", "123456789 1", 4),
+        line_two("E8", "10 99999999", 6),
+        line_two("E8", "10 100000000", 4),
+    ]
+}
+
+fn text_end_line() -> Vec<Vector> {
+    vec![
+        rows_refused("E5", "1\nend\n", 4, 13),
+        rows_refused("E5", "1\nend3\n", 4, 13),
+        rows_refused("E5", "1\nEnd 3\n", 4, 13),
+        rows_refused("E5", "end x\n", 4, 11),
+        rows_refused("E5", "end 0\n", 8, 11),
+        rows_refused("E5", "end 7\n", 8, 11),
+        rows_refused("E6", "1\nend 123456789\n", 4, 13),
+        rows_refused("E6", "1\n2\n3\nend 03\n", 4, 17),
+        rows_refused("E6", "1\n2\n3\nend 3 \n", 4, 17),
+        rows_refused("E6", "1\n2\n3\nend  3\n", 4, 17),
+        rows_refused("E6", "1\nend \n", 4, 13),
+        rows_refused("E6", "1\nend 99999999\n", 9, 13),
+        rows_refused("E6", "1\nend 0\n", 9, 13),
+        rows_refused("E7", "1\nend 1\n\n", 10, 19),
+        rows_refused("E7", "1\nend 1\nx", 10, 19),
+        rows_refused("E7", "1\nend 2\n\n", 9, 13),
+        rows_refused("E7", "end 0\nx", 8, 11),
+        rows_refused("E12 fault before 11", "1\n2\n3\nend 2\n", 9, 17),
+        rows_refused("E12 fault before 11", "1\n2\n3\nend 3\n\n", 10, 23),
+        rows_refused("E12 11", "1\n2\n3\nend 3\n", 11, 0),
+        is("E12 enough", text_into(b"pma 1\n10 2\n1\n2\nend 2\n", 2), &[0, 0, 10, 2, 2, 1, 2]),
+    ]
+}
+
+fn text_numbers() -> Vec<Vector> {
+    vec![
+        rows_refused("E8", "123456789\n", 4, 11),
+        rows_refused("E8", "000000001\n", 4, 11),
+        rows_refused("E8", "16777216\n", 7, 11),
+        rows_refused("E8", "99999999\n", 7, 11),
+        rows_refused("E8", "1\n16777216\n", 7, 13),
+        rows_refused("E8", "00\n", 4, 11),
+        rows_refused("E8", "-1\n", 4, 11),
+        rows_refused("E8", "+1\n", 4, 11),
+        rows_refused("E8", "1.0\n", 4, 11),
+        text_refused("E9", after_64_rows("16777216\n").as_bytes(), 7, 139),
+        text_refused("E9", after_64_rows("5\n").as_bytes(), 8, 139),
+        text_refused("E9", after_64_rows("x\n").as_bytes(), 4, 139),
+        text_refused("E9", after_64_rows("5").as_bytes(), 3, 139),
+        text_refused("E9", after_64_rows("end 65\n").as_bytes(), 9, 139),
+        text_refused("E9", after_64_rows("end 64\n").as_bytes(), 11, 0),
+    ]
+}
+
+fn text_limits() -> Vec<Vector> {
+    let padded = |length: usize| {
+        let mut text = FIRST_TEXT.as_bytes().to_vec();
+        text.resize(length, b'7');
+        text
+    };
+    let at_limits = "pma 1\n1000000 1000000\n16777215\nend 1\n";
+    vec![
+        text_refused("E10", &padded(1024), 10, 23),
+        text_refused("E10", &padded(1025), 1, 0),
+        is(
+            "01 limits",
+            text_into(at_limits.as_bytes(), 1),
+            &[0, 0, 1_000_000, 1_000_000, 1, 16_777_215],
+        ),
+    ]
+}
+
+fn plan_file_numbers() -> Vec<Vector> {
+    vec![
+        body_refused("F1", &[0], 5, 4),
+        body_refused("F1", &[10, 11], 6, 5),
+        body_refused("F1", &[10, 2, 0], 8, 6),
+        body_refused("F1", &[10, 2, 65], 8, 6),
+        body_refused("F2", &[], 16, 4),
+        body_refused("F2", &[10], 16, 5),
+        body_refused("F2", &[10, 2], 16, 6),
+        body_refused("F2", &[10, 2, 1], 16, 7),
+        body_refused("F2", &[10, 2, 1, 0], 16, 8),
+        body_refused("F2", &[10, 2, 2, 0, 0], 16, 9),
+        body_refused("F2 cut in a number", &[10, 2, 1, 0x80], 16, 7),
+        body_refused("F2 cut in a number", &[0x80, 0x80, 0x80], 16, 4),
+        file_refused("F3", b"", 16, 0),
+        file_refused("F3", b"P", 16, 0),
+        file_refused("F3", b"PMA", 16, 0),
+        file_refused("F3", b"PMA\0", 16, 0),
+        file_refused("F3", b"PMA\x02\x0A\x02\x01\0\0", 16, 0),
+        file_refused("F3", b"pma\x01\x0A\x02\x01\0\0", 16, 0),
+        body_refused("F4", &[255, 255, 255, 0x7F], 5, 4),
+        body_refused("F4", &[10, 2, 1, 255, 255, 255, 0x7F], 7, 7),
+        body_refused("F4 five bytes", &[255, 255, 255, 255, 1], 16, 4),
+        body_refused("F4 five bytes", &[10, 2, 1, 0x81, 0x80, 0x80, 0x80, 0], 16, 7),
+        body_refused("F5", &[0x80, 0], 16, 4),
+        body_refused("F5", &[10, 2, 1, 0x80, 0, 0], 16, 7),
+        body_refused("F5", &[10, 2, 1, 0x80, 0x80, 0, 0], 16, 7),
+        body_refused("F5", &[10, 2, 1, 0xAC, 0x82, 0, 0], 16, 7),
+        body_refused("F5", &[10, 2, 1, 0x80, 0x80, 0x80, 0, 0], 16, 7),
+        is(
+            "F5 16384",
+            file_into(&file(&[10, 2, 1, 0x80, 0x80, 1, 0]), 1, 1),
+            &[0, 0, 10, 2, 1, 16_384, 0],
+        ),
+        is("F5 00", file_into(&file(&[10, 2, 1, 0, 0]), 1, 1), &[0, 0, 10, 2, 1, 0, 0]),
+    ]
+}
+
+fn plan_file_orders() -> Vec<Vector> {
+    vec![
+        body_refused("F6 left over, 18", &[10, 2, 2, 0, 0, 0, 1, 9], 16, 11),
+        body_refused("F6 left over", &[10, 2, 1, 0, 0, 0], 16, 9),
+        body_refused("F6 left over", &[10, 2, 1, 0, 0, 0x80], 16, 9),
+        body_refused("F6 18", &[10, 2, 2, 0, 0, 0, 1], 18, 1),
+        body_refused("F6 18 before 11", &[10, 2, 3, 0, 0, 0, 5, 0, 1], 18, 2),
+        body_refused("F6 11", FIRST_FILE, 11, 0),
+        body_refused("F6 left over before 11", &[FIRST_FILE, &[0]].concat(), 16, 13),
+        body_refused("F7", &[10, 2, 64], 16, 7),
+        body_refused("F1 17", &[10, 2, 1, 0, 10], 17, 8),
+        body_refused("F1 7", &[10, 2, 1, 0x80, 0x80, 0x80, 8, 99], 7, 7),
+    ]
+}
+
+fn writer() -> Vec<Vector> {
+    let plan: [u64; 3] = [0, 2, 5];
+    let short: Vec<u64> = (200..212).collect();
+    let bytes = [0x50, 0x4D, 0x41, 1, 10, 2, 3, 0, 0, 3, 2, 7, 5];
+    vec![
+        is("A2 writer short", write(10, 2, FIRST, &plan, 12), &[&[11, 0, 0], &short[..]].concat()),
+        is("A2 writer exact", write(10, 2, FIRST, &plan, 13), &[&[0, 0, 13], &bytes[..]].concat()),
+        is(
+            "A2 writer tail",
+            write(10, 2, FIRST, &plan, 15),
+            &[&[0, 0, 13], &bytes[..], &[213, 214]].concat(),
+        ),
+        is("F10 11 before 17", write(10, 2, &[0, 0], &[10], 0), &[11, 0, 0]),
+        is("F10 17 before output", write(10, 2, &[0, 0], &[0, 10], 0), &[17, 1, 0]),
+        is("F10 18 before output", write(10, 2, &[0, 0], &[0, 9], 0), &[18, 1, 0]),
+        is("F10 output", write(10, 2, &[0, 0], &[0, 8], 0), &[11, 0, 0]),
+        is("A5 writer 7 before 17", write(10, 2, &[0, 1 << 24], &[99, 0], 0), &[7, 1, 0]),
+        is(
+            "01 300 is AC 02",
+            write(300, 1, &[16_777_215], &[128], 15),
+            &[0, 0, 14, 0x50, 0x4D, 0x41, 1, 0xAC, 2, 1, 1, 255, 255, 255, 7, 0x80, 1, 214],
+        ),
+    ]
+}
+
+fn program() -> Vec<Vector> {
+    let nine = format!("pma 1\n18 2\n{}end 9\n", "0\n".repeat(9));
+    let sixty_four = after_64_rows("end 64\n");
+    vec![
+        prints("G1", FIRST_TEXT, "found 3\n0\n2\n5\n"),
+        prints("G1", "pma 1\n3 1\n0\n0\n1\nend 3\n", "none 16\n"),
+        prints("G1", "pma 1\n1 1\n0\nend 1\n", "found 0\n0\n"),
+        prints("G1", "pma 1\n1 1\n0\n0\nend 2\n", "none 2\n"),
+        prints("G1", "pma 1\n4 1\n0\n2\n1\n1\nend 4\n", "found 16\n0\n3\n1\n2\n"),
+        prints("G1", "pma 1\n10 2\n0\n37\nend 3\n", "refused 9 16\n"),
+        prints("G2", &"x".repeat(1025), "refused 1 0\n"),
+        prints("G2", &"x".repeat(1100), "refused 1 0\n"),
+        prints("G2", &"x".repeat(1024), "refused 3 0\n"),
+        prints("G2", "", "refused 3 0\n"),
+        prints("G4", &nine, "refused 12 0\n"),
+        prints("G4", &sixty_four, "refused 12 0\n"),
+        prints("G5", &after_64_rows("5\nend 65\n"), "refused 8 139\n"),
+    ]
+}
