@@ -1,0 +1,42 @@
+-- Every place is written, so the old numbers do not matter.
+use mathlib.Core.List.{List, [], _∷_}
+use native.Mathlib.Omega.{arith}
+use lib.ListN.{length-set}
+use Rattle.seamwhisk.proofs.Filled.{puts, filled}
+use borrow.Author.Needs.{needs}
+use Rattle.seamwhisk.proofs.fill.five.Statement.{statement}
+use Rattle.seamwhisk.proofs.fill.five.Tie as tie
+
+slice-write-answer : tie.Need-slice-write-answer
+slice-write-answer c = search needs
+
+slice-write-answer-2 : tie.Need-slice-write-answer-2
+slice-write-answer-2 c = search needs
+
+slice-write-answer-3 : tie.Need-slice-write-answer-3
+slice-write-answer-3 c = search needs
+
+slice-write-answer-4 : tie.Need-slice-write-answer-4
+slice-write-answer-4 c = search needs
+
+slice-write-answer-5 : tie.Need-slice-write-answer-5
+slice-write-answer-5 c = simp length-set (omega arith)
+
+same-length : tie.Need-same-length
+same-length c = search needs
+
+returns : tie.Need-returns
+unfolding puts
+returns c = let w = c .args in filled (w .answer .now) (w .a ∷ w .b ∷ w .c ∷ w .d ∷ w .e ∷ []) (omega arith)
+
+pub five-spec : {M : Type 1} → statement M
+five-spec =
+    tie.close
+    (tie.spec
+    slice-write-answer
+    slice-write-answer-2
+    slice-write-answer-3
+    slice-write-answer-4
+    slice-write-answer-5
+    same-length
+    returns)

@@ -1,0 +1,28 @@
+-- Every place is written, so the old numbers do not matter.
+use mathlib.Core.List.{List, [], _∷_}
+use native.Mathlib.Omega.{arith}
+use Rattle.seamwhisk.proofs.Filled.{puts, filled}
+use borrow.Author.Needs.{needs}
+use Rattle.seamwhisk.proofs.fill.three.Statement.{statement}
+use Rattle.seamwhisk.proofs.fill.three.Tie as tie
+
+slice-write-answer : tie.Need-slice-write-answer
+slice-write-answer c = search needs
+
+slice-write-answer-2 : tie.Need-slice-write-answer-2
+slice-write-answer-2 c = search needs
+
+slice-write-answer-3 : tie.Need-slice-write-answer-3
+slice-write-answer-3 c = search needs
+
+same-length : tie.Need-same-length
+same-length c = search needs
+
+returns : tie.Need-returns
+unfolding puts
+returns c = let w = c .args in filled (w .answer .now) (w .a ∷ w .b ∷ w .c ∷ []) (omega arith)
+
+pub three-spec : {M : Type 1} → statement M
+three-spec =
+    tie.close
+    (tie.spec slice-write-answer slice-write-answer-2 slice-write-answer-3 same-length returns)

@@ -1,0 +1,2 @@
+-- The definitions that the contracts of `seamwhisk` cite.
+pub mod Numbers

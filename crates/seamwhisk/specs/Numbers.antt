@@ -1,0 +1,25 @@
+-- The numbers of each answer, in the order in which the C interface gives them.
+use mathlib.Core.List.{List, [], _∷_}
+use Prim.Native.Nat.{ℕ}
+use Rattle.link.specs.declared.Link.{Link}
+use Rattle.checker.specs.Answer.{Said as Checked}
+use Rattle.quick.specs.Answer.{Outcome}
+
+abbrev pub linkOf : ℕ → ℕ → Link
+linkOf p t = record { period = p; size = t }
+
+-- number, place, earlier row, later row, crossing
+abbrev pub checkedAs : Checked → List ℕ
+checkedAs s = s .number ∷ s .place ∷ s .earlier ∷ s .later ∷ s .crossing ∷ []
+
+-- an answer's numbers, and the lent list as it is left
+pub record Left : Type 0 where
+  pub numbers : List ℕ
+  pub leaves : List ℕ
+
+abbrev pub left : List ℕ → List ℕ → Left
+left ns xs = record { numbers = ns; leaves = xs }
+
+-- number, place
+abbrev pub plannedAs : Outcome → Left
+plannedAs o = left (o .answer .number ∷ o .answer .place ∷ []) (o .leaves)

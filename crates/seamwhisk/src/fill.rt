@@ -1,0 +1,32 @@
+// An answer's numbers, put where the caller lent room for them.
+ghost use mathlib.Core.Path.{_≡_};
+ghost use mathlib.Core.List.{[], _∷_};
+ghost use lib.ListN.{length};
+
+pub fn two(answer: &mut [u64], a: u64, b: u64)
+    requires { ⌜ length (now answer) ≡ 2 ⌝ }
+    ensures { λ _. ⌜ now (answer .exit) ≡ (a ∷ b ∷ []) ⌝ }
+{
+    answer[0] = a;
+    answer[1] = b;
+}
+
+pub fn three(answer: &mut [u64], a: u64, b: u64, c: u64)
+    requires { ⌜ length (now answer) ≡ 3 ⌝ }
+    ensures { λ _. ⌜ now (answer .exit) ≡ (a ∷ b ∷ c ∷ []) ⌝ }
+{
+    answer[0] = a;
+    answer[1] = b;
+    answer[2] = c;
+}
+
+pub fn five(answer: &mut [u64], a: u64, b: u64, c: u64, d: u64, e: u64)
+    requires { ⌜ length (now answer) ≡ 5 ⌝ }
+    ensures { λ _. ⌜ now (answer .exit) ≡ (a ∷ b ∷ c ∷ d ∷ e ∷ []) ⌝ }
+{
+    answer[0] = a;
+    answer[1] = b;
+    answer[2] = c;
+    answer[3] = d;
+    answer[4] = e;
+}
