@@ -1,0 +1,145 @@
+// Runs the oracle's cases through the library: a case a line on standard input, its answer and its buffers a line on standard output.
+mod cases;
+mod show;
+
+use libc::STDIN_FILENO;
+ghost use Prim.Native.Nat.{_≤_};
+ghost use lib.ListN.{length};
+ghost use Rattle.io.specs.Counts.{Counts};
+
+// 4 megabytes of cases.
+const MOST_BLOCKS: usize = 64;
+
+fn main() {
+    let mut space = io::large_buffer();
+    let mut held: usize = 0;
+    let mut turn: usize = 0;
+    while turn < MOST_BLOCKS {
+        held = block(&mut space, held);
+        turn += 1;
+    }
+}
+
+// Fills the room behind the bytes that are held, runs the whole lines, and moves what is left to the front.
+fn block(space: &mut [u8], held: usize) -> usize
+    requires { ⌜ held ≤ length (now space) ⌝ }
+    ensures { λ r. ⌜ r ≤ length (now (space .entry)) ⌝ }
+{
+    let end = refill(space, held);
+    let rest = run(&space[..end]);
+    shift(space, rest, end);
+    end - rest
+}
+
+// Reads on behind the bytes that are held, and answers how many there are now.
+fn refill(space: &mut [u8], held: usize) -> usize
+    requires { ⌜ held ≤ length (now space) ⌝ }
+    ensures { λ r. ⌜ Counts r (now (space .exit)) ⌝ }
+{
+    held + io::read_full(STDIN_FILENO, &mut space[held..])
+}
+
+// Moves the bytes from `from` to `end` to the front.
+fn shift(space: &mut [u8], from: usize, end: usize)
+    requires { ⌜ (from ≤ end) × (end ≤ length (now space)) ⌝ }
+{
+    let mut i = from;
+    while i < end {
+        space[i - from] = space[i];
+        i += 1;
+    }
+}
+
+// Runs each whole line, and answers where the unfinished one begins.
+fn run(text: &[u8]) -> usize
+    ensures { λ r. ⌜ r ≤ length (now (text .entry)) ⌝ }
+{
+    let mut at: usize = 0;
+    loop {
+        let end = line_end(text, at);
+        if end == text.len() {
+            return at;
+        }
+        case(&text[at..end]);
+        at = end + 1;
+    }
+}
+
+// Where the line that begins at `at` ends.
+fn line_end(text: &[u8], at: usize) -> usize
+    requires { ⌜ at ≤ length (now text) ⌝ }
+    ensures { λ r. ⌜ (at ≤ r) × (r ≤ length (now (text .entry))) ⌝ }
+{
+    let mut i = at;
+    while i < text.len() {
+        if text[i] == 10 {
+            return i;
+        }
+        i += 1;
+    }
+    i
+}
+
+fn case(line: &[u8]) {
+    let kind = cases::number(line, 0);
+    let at = kind.next;
+    let k = kind.value;
+    match k {
+        1 => table_and_offsets(line, at),
+        2 | 3 => table_and_room(line, at, k),
+        _ => {}
+    }
+    show::end();
+}
+
+// A table and its offsets.
+fn table_and_offsets(line: &[u8], at: usize) {
+    let period = cases::number(line, at);
+    let size = cases::number(line, period.next);
+    let mut ds = [0u32; 132];
+    let delays = cases::list(line, size.next, &mut ds);
+    let mut os = [0u32; 132];
+    let offsets = cases::list(line, delays.next, &mut os);
+    let n = delays.count;
+    let m = offsets.count;
+    check(cases::word(period), cases::word(size), &ds[..n], &os[..m]);
+}
+
+fn check(period: u32, size: u32, delays: &[u32], offsets: &[u32]) {
+    let mut answer = [0u64; 5];
+    seamwhisk::seamwhisk_check(period, size, delays, offsets, &mut answer);
+    show::five(&answer);
+}
+
+// A table and a lent list for its offsets.
+fn table_and_room(line: &[u8], at: usize, kind: u64) {
+    let period = cases::number(line, at);
+    let size = cases::number(line, period.next);
+    let mut ds = [0u32; 132];
+    let delays = cases::list(line, size.next, &mut ds);
+    let mut os = [0u32; 132];
+    let offsets = cases::lent(line, delays.next, &mut os);
+    let n = delays.count;
+    let m = offsets.count;
+    let p = cases::word(period);
+    let t = cases::word(size);
+    if kind == 2 {
+        first_fit(p, t, &ds[..n], &mut os[..m]);
+    } else {
+        meta_offset(p, t, &ds[..n], &mut os[..m]);
+    }
+}
+
+fn first_fit(period: u32, size: u32, delays: &[u32], offsets: &mut [u32]) {
+    let mut answer = [0u64; 2];
+    seamwhisk::seamwhisk_first_fit(period, size, delays, offsets, &mut answer);
+    show::two(&answer);
+    show::list(offsets);
+}
+
+fn meta_offset(period: u32, size: u32, delays: &[u32], offsets: &mut [u32]) {
+    let mut answer = [0u64; 2];
+    seamwhisk::seamwhisk_meta_offset(period, size, delays, offsets, &mut answer);
+    show::two(&answer);
+    show::list(offsets);
+}
