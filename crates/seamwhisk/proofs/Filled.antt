@@ -1,21 +1,11 @@
 -- A list that is written from the front to its end holds what was written. Assumes nothing.
-use mathlib.Core.Path.{_≡_, sym, _∙_, subst}
-use mathlib.Core.List.{List, [], _∷_, _++_, append-assoc, append-nil}
-use Prim.Native.Nat.{ℕ, suc, _+_}
+use mathlib.Core.Path.{_≡_, _∙_}
+use mathlib.Core.List.{List, append-nil}
+use Prim.Native.Nat.{ℕ}
+use native.Mathlib.Nat.{zero-add}
 use native.Mathlib.Omega.{arith}
-use lib.ListN.{length, take, set, length-set}
-use lib.Seq.{take-suc-set, take-length}
+use lib.ListN.{length}
+use lib.Seq.{sets, sets-eq, drop-length}
 
--- the numbers vs, written one after the other from index i on
-unfoldable pub puts : List ℕ → ℕ → List ℕ → List ℕ
-puts xs i [] = xs
-puts xs i (v ∷ vs) = puts (set xs i v) (suc i) vs
-
-written : (xs : List ℕ) (i : ℕ) (vs : List ℕ) → i + length vs ≡ length xs → puts xs i vs ≡ take i xs ++ vs
-unfolding puts
-written xs i [] e = let all : length xs ≡ i = omega arith in sym (append-nil (take i xs) ∙ subst (λ (m : ℕ). take m xs ≡ xs) all (take-length xs))
-written xs i (v ∷ vs) e =
-    written (set xs i v) (suc i) vs (omega (arith, length-set xs i v)) ∙ rw (take-suc-set xs i v (omega arith), append-assoc)
-
-pub filled : (xs vs : List ℕ) → length vs ≡ length xs → puts xs 0 vs ≡ vs
-filled xs vs e = written xs 0 vs (omega arith)
+pub filled : (xs vs : List ℕ) → length vs ≡ length xs → sets xs 0 vs ≡ vs
+filled xs vs e = sets-eq vs xs 0 (omega arith) ∙ rw (zero-add, e, drop-length, append-nil)

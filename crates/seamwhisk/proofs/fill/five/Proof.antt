@@ -2,7 +2,7 @@
 use mathlib.Core.List.{List, [], _∷_}
 use native.Mathlib.Omega.{arith}
 use lib.ListN.{length-set}
-use Rattle.seamwhisk.proofs.Filled.{puts, filled}
+use Rattle.seamwhisk.proofs.Filled.{filled}
 use borrow.Author.Needs.{needs}
 use Rattle.seamwhisk.proofs.fill.five.Statement.{statement}
 use Rattle.seamwhisk.proofs.fill.five.Tie as tie
@@ -26,7 +26,7 @@ same-length : tie.Need-same-length
 same-length c = search needs
 
 returns : tie.Need-returns
-unfolding puts
+
 returns c = let w = c .args in filled (w .answer .now) (w .a ∷ w .b ∷ w .c ∷ w .d ∷ w .e ∷ []) (omega arith)
 
 pub five-spec : {M : Type 1} → statement M

@@ -1,7 +1,7 @@
 -- Every place is written, so the old numbers do not matter.
 use mathlib.Core.List.{List, [], _∷_}
 use native.Mathlib.Omega.{arith}
-use Rattle.seamwhisk.proofs.Filled.{puts, filled}
+use Rattle.seamwhisk.proofs.Filled.{filled}
 use borrow.Author.Needs.{needs}
 use Rattle.seamwhisk.proofs.fill.two.Statement.{statement}
 use Rattle.seamwhisk.proofs.fill.two.Tie as tie
@@ -16,7 +16,7 @@ same-length : tie.Need-same-length
 same-length c = search needs
 
 returns : tie.Need-returns
-unfolding puts
+
 returns c = let w = c .args in filled (w .answer .now) (w .a ∷ w .b ∷ []) (omega arith)
 
 pub two-spec : {M : Type 1} → statement M

@@ -1,0 +1,260 @@
+/* Times the C baseline and Seamwhisk side by side: the same workloads in one run, in turn, several
+ * rounds, the best of each. First it sees that both give equal answers and buffers. Prints a
+ * markdown table; exit status 1 if an answer differs or is not the one expected. */
+#define _POSIX_C_SOURCE 199309L
+
+#include <inttypes.h>
+#include <stdbool.h>
+#include <stdio.h>
+#include <string.h>
+#include <time.h>
+
+#include "rules.h"
+#include "seamwhisk.h"
+
+#define PERIOD 1000000
+#define ROWS SEAMWHISK_MAX_ROWS
+#define LIGHT 500
+#define FULL 15000
+#define ROUND_NS 2e6   /* a round is as many calls as take this long, at least one */
+#define LEAST_ROUNDS 7 /* so many rounds, and more until all have taken LEAST_NS */
+#define LEAST_NS 1e9
+
+/* One side of the comparison. */
+struct side {
+    void (*check)(uint32_t, uint32_t, const uint32_t *, size_t, const uint32_t *, size_t,
+                  seamwhisk_checked *);
+    void (*first_fit)(uint32_t, uint32_t, const uint32_t *, size_t, uint32_t *, size_t,
+                      seamwhisk_planned *);
+    void (*meta_offset)(uint32_t, uint32_t, const uint32_t *, size_t, uint32_t *, size_t,
+                        seamwhisk_planned *);
+    void (*exact)(uint32_t, uint32_t, const uint32_t *, size_t, uint64_t, uint32_t *, size_t,
+                  seamwhisk_searched *);
+    uint64_t (*ceiling)(size_t);
+    void (*read_table)(const uint8_t *, size_t, uint32_t *, size_t, seamwhisk_read *);
+    void (*write_plan)(uint32_t, uint32_t, const uint32_t *, size_t, const uint32_t *, size_t,
+                       uint8_t *, size_t, seamwhisk_written *);
+    void (*read_plan)(const uint8_t *, size_t, uint32_t *, size_t, uint32_t *, size_t,
+                      seamwhisk_read *);
+    void (*report)(uint32_t, uint32_t, const uint32_t *, size_t, const uint32_t *, size_t,
+                   seamwhisk_reported *);
+};
+
+static const struct side baseline = {rules_check,     rules_first_fit,  rules_meta_offset,
+                                     rules_exact,     rules_ceiling,    rules_read_table,
+                                     rules_write_plan, rules_read_plan, rules_report};
+static const struct side seamwhisk = {
+    seamwhisk_check,      seamwhisk_first_fit,  seamwhisk_meta_offset,
+    seamwhisk_exact,      seamwhisk_ceiling,    seamwhisk_read_table,
+    seamwhisk_write_plan, seamwhisk_read_plan, seamwhisk_report};
+
+/* What the workloads are run on; made once, the same for both sides. */
+static const uint32_t eight_delays[8] = {7, 16, 16, 16, 16, 16, 16, 16};
+static uint32_t delays[ROWS], plan[ROWS];
+static uint8_t text[SEAMWHISK_MAX_TEXT], file[SEAMWHISK_MAX_FILE];
+static size_t text_length, file_length;
+
+/* All that a call can write: the answer and the lent buffers. */
+struct result {
+    union {
+        uint64_t words[8];
+        seamwhisk_checked checked;
+        seamwhisk_planned planned;
+        seamwhisk_searched searched;
+        seamwhisk_read read;
+        seamwhisk_written written;
+        seamwhisk_reported reported;
+    } answer;
+    uint32_t delays[ROWS], offsets[ROWS];
+    uint8_t file[SEAMWHISK_MAX_FILE];
+};
+
+static volatile uint64_t sink;
+
+static void exact(const struct side *side, struct result *r)
+{
+    side->exact(17, 2, eight_delays, 8, side->ceiling(8), r->offsets, ROWS, &r->answer.searched);
+}
+
+static void first_fit_light(const struct side *side, struct result *r)
+{
+    side->first_fit(PERIOD, LIGHT, delays, ROWS, r->offsets, ROWS, &r->answer.planned);
+}
+
+static void first_fit_full(const struct side *side, struct result *r)
+{
+    side->first_fit(PERIOD, FULL, delays, ROWS, r->offsets, ROWS, &r->answer.planned);
+}
+
+static void meta_offset_light(const struct side *side, struct result *r)
+{
+    side->meta_offset(PERIOD, LIGHT, delays, ROWS, r->offsets, ROWS, &r->answer.planned);
+}
+
+static void meta_offset_full(const struct side *side, struct result *r)
+{
+    side->meta_offset(PERIOD, FULL, delays, ROWS, r->offsets, ROWS, &r->answer.planned);
+}
+
+static void check(const struct side *side, struct result *r)
+{
+    side->check(PERIOD, LIGHT, delays, ROWS, plan, ROWS, &r->answer.checked);
+}
+
+static void report(const struct side *side, struct result *r)
+{
+    side->report(PERIOD, LIGHT, delays, ROWS, plan, ROWS, &r->answer.reported);
+}
+
+static void read_table(const struct side *side, struct result *r)
+{
+    side->read_table(text, text_length, r->delays, ROWS, &r->answer.read);
+}
+
+static void write_plan(const struct side *side, struct result *r)
+{
+    side->write_plan(PERIOD, LIGHT, delays, ROWS, plan, ROWS, r->file, sizeof r->file,
+                     &r->answer.written);
+}
+
+static void read_plan(const struct side *side, struct result *r)
+{
+    side->read_plan(file, file_length, r->delays, ROWS, r->offsets, ROWS, &r->answer.read);
+}
+
+/* A workload: its name, the first words that its answer must have, and the call. */
+struct workload {
+    const char *name;
+    size_t words;
+    uint64_t expected[5];
+    void (*call)(const struct side *, struct result *);
+};
+
+static const struct workload workloads[] = {
+    {"exact, 17, 2, (7, then seven times 16): 14 after 33,809,510 tests",
+     3, {14, 0, 33809510}, exact},
+    {"First Fit, size 500: a plan", 2, {0, 0}, first_fit_light},
+    {"First Fit, size 15,000: 13 at row 41", 2, {13, 41}, first_fit_full},
+    {"Meta-Offset, size 500: a plan", 2, {0, 0}, meta_offset_light},
+    {"Meta-Offset, size 15,000: 13 at row 42", 2, {13, 42}, meta_offset_full},
+    {"checker, size 500: clear", 5, {0, 0, 0, 0, 0}, check},
+    {"stretch report, size 500", 3, {0, 0, PERIOD - ROWS * LIGHT}, report},
+    {"text table, read", 5, {0, 0, PERIOD, LIGHT, ROWS}, read_table},
+    {"plan file, written", 2, {0, 0}, write_plan},
+    {"plan file, read", 5, {0, 0, PERIOD, LIGHT, ROWS}, read_plan},
+};
+
+/* Pseudo-random delays from a fixed seed; the plan, the text and the file that go with them. */
+static bool make_inputs(void)
+{
+    uint32_t state = 1;
+    int length = snprintf((char *)text, sizeof text, "pma 1\n%d %d\n", PERIOD, LIGHT);
+    for (size_t row = 0; row < ROWS; row++) {
+        state = state * 1664525u + 1013904223u;
+        delays[row] = state >> 8;
+        length += snprintf((char *)text + length, sizeof text - (size_t)length, "%" PRIu32 "\n",
+                           delays[row]);
+    }
+    length += snprintf((char *)text + length, sizeof text - (size_t)length, "end %d\n", ROWS);
+    text_length = (size_t)length;
+    seamwhisk_planned planned;
+    seamwhisk_written written;
+    rules_first_fit(PERIOD, LIGHT, delays, ROWS, plan, ROWS, &planned);
+    rules_write_plan(PERIOD, LIGHT, delays, ROWS, plan, ROWS, file, sizeof file, &written);
+    file_length = (size_t)written.length;
+    return planned.number == 0 && written.number == 0;
+}
+
+static void print_answer(const char *name, const uint64_t *words, size_t count)
+{
+    printf("  %s:", name);
+    for (size_t k = 0; k < count; k++)
+        printf(" %" PRIu64, words[k]);
+    printf("\n");
+}
+
+/* Calls both sides once, on buffers that hold the same bytes. */
+static bool same_results(const struct workload *workload)
+{
+    struct result c, s;
+    memset(&c, 0xA5, sizeof c);
+    memset(&s, 0xA5, sizeof s);
+    workload->call(&baseline, &c);
+    workload->call(&seamwhisk, &s);
+    size_t compared = workload->words * sizeof(uint64_t);
+    if (memcmp(&c, &s, sizeof c) == 0 &&
+        memcmp(c.answer.words, workload->expected, compared) == 0)
+        return true;
+    printf("%s: answers or buffers differ\n", workload->name);
+    print_answer("expected", workload->expected, workload->words);
+    print_answer("C", c.answer.words, 8);
+    print_answer("Seamwhisk", s.answer.words, 8);
+    return false;
+}
+
+/* Nanoseconds of processor time a call, over so many calls. */
+static double time_calls(const struct workload *workload, const struct side *side, long calls)
+{
+    struct result r;
+    struct timespec from, to;
+    clock_gettime(CLOCK_PROCESS_CPUTIME_ID, &from);
+    for (long k = 0; k < calls; k++) {
+        workload->call(side, &r);
+        sink += r.answer.words[0];
+    }
+    clock_gettime(CLOCK_PROCESS_CPUTIME_ID, &to);
+    double ns = 1e9 * (double)(to.tv_sec - from.tv_sec) + (double)(to.tv_nsec - from.tv_nsec);
+    return ns / (double)calls;
+}
+
+/* As many calls as take a round; at least one. */
+static long calls_in_a_round(const struct workload *workload, const struct side *side)
+{
+    long calls = 1;
+    while (calls < 1000000 && time_calls(workload, side, calls) * (double)calls < ROUND_NS)
+        calls *= 2;
+    return calls;
+}
+
+static void print_time(double ns)
+{
+    if (ns < 1e5)
+        printf(" %.0f ns |", ns);
+    else
+        printf(" %.2f ms |", ns / 1e6);
+}
+
+static void compare(const struct workload *workload)
+{
+    const struct side *const sides[2] = {&baseline, &seamwhisk};
+    double best[2] = {0, 0}, total = 0;
+    long calls[2];
+    for (int k = 0; k < 2; k++)
+        calls[k] = calls_in_a_round(workload, sides[k]);
+    for (int round = 0; round < LEAST_ROUNDS || total < LEAST_NS; round++)
+        for (int k = 0; k < 2; k++) {
+            double ns = time_calls(workload, sides[k], calls[k]);
+            total += ns * (double)calls[k];
+            if (round == 0 || ns < best[k])
+                best[k] = ns;
+        }
+    printf("| %s |", workload->name);
+    print_time(best[0]);
+    print_time(best[1]);
+    printf(" %.2f |\n", best[1] / best[0]);
+    fflush(stdout);
+}
+
+int main(void)
+{
+    const size_t count = sizeof workloads / sizeof workloads[0];
+    bool same = make_inputs();
+    for (size_t k = 0; k < count; k++)
+        same = same_results(&workloads[k]) && same;
+    if (!same)
+        return 1;
+    printf("| workload | C | Seamwhisk | ratio |\n|---|--:|--:|--:|\n");
+    for (size_t k = 0; k < count; k++)
+        compare(&workloads[k]);
+    return 0;
+}

@@ -1,0 +1,285 @@
+/* Reads the oracle's cases on standard input, calls the C functions on them and prints the answers
+ * in the oracle's format, one line a case. Kinds 10 and 11 have no C function: their line is `-`.
+ * It also sees that nothing is written behind the answer or behind a lent buffer.
+ * With -DBASELINE it calls the C baseline instead. */
+#include <inttypes.h>
+#include <stdbool.h>
+#include <stdio.h>
+#include <stdlib.h>
+
+#ifdef BASELINE
+#include "rules.h"
+#define CALL(name) rules_##name
+#else
+#include "seamwhisk.h"
+#define CALL(name) seamwhisk_##name
+#endif
+
+#define MOST_NUMBERS 128
+#define MOST_BYTES 2048
+#define LINE_ROOM 16384
+#define MARK UINT64_C(0xA5A5A5A5A5A5A5A5)
+
+/* Each answer has just its numbers. */
+#define HAS(type, count) typedef char type##_has_##count[sizeof(type) == 8 * count ? 1 : -1]
+HAS(seamwhisk_checked, 5);
+HAS(seamwhisk_planned, 2);
+HAS(seamwhisk_searched, 3);
+HAS(seamwhisk_read, 5);
+HAS(seamwhisk_written, 3);
+HAS(seamwhisk_reported, 8);
+
+/* Lists have `length` elements. A lent one has `first`, first + 1, .. from start to end of `at`. */
+struct numbers {
+    uint32_t at[MOST_NUMBERS];
+    size_t length;
+    uint32_t first;
+};
+
+struct bytes {
+    uint8_t at[MOST_BYTES];
+    size_t length;
+    uint32_t first;
+};
+
+struct table {
+    uint32_t period, size;
+    struct numbers delays;
+};
+
+/* The rest of the line that is being read; wrong once something was not as it should be. */
+static const char *rest;
+static bool wrong;
+
+/* Something was written behind an answer or a lent buffer. */
+static bool spilt;
+
+/* The next number, at most `most`. Words are parted by one space. */
+static uint64_t number(uint64_t most)
+{
+    uint64_t value = 0;
+    if (*rest < '0' || *rest > '9')
+        wrong = true;
+    for (; *rest >= '0' && *rest <= '9'; rest++) {
+        uint64_t digit = (uint64_t)(*rest - '0');
+        if (value > (most - digit) / 10)
+            wrong = true;
+        value = wrong ? 0 : 10 * value + digit;
+    }
+    if (*rest == ' ')
+        rest++;
+    return value;
+}
+
+static struct numbers list(void)
+{
+    struct numbers list = {{0}, (size_t)number(MOST_NUMBERS), 0};
+    for (size_t k = 0; k < list.length; k++)
+        list.at[k] = (uint32_t)number(UINT32_MAX);
+    return list;
+}
+
+static struct bytes byte_list(void)
+{
+    struct bytes list = {{0}, (size_t)number(MOST_BYTES), 0};
+    for (size_t k = 0; k < list.length; k++)
+        list.at[k] = (uint8_t)number(UINT8_MAX);
+    return list;
+}
+
+static struct numbers lent(void)
+{
+    struct numbers list;
+    list.length = (size_t)number(MOST_NUMBERS);
+    list.first = (uint32_t)number(UINT32_MAX);
+    for (size_t k = 0; k < MOST_NUMBERS; k++)
+        list.at[k] = list.first + (uint32_t)k;
+    return list;
+}
+
+static struct bytes lent_bytes(void)
+{
+    struct bytes list;
+    list.length = (size_t)number(MOST_BYTES);
+    list.first = (uint32_t)number(UINT32_MAX);
+    for (size_t k = 0; k < MOST_BYTES; k++)
+        list.at[k] = (uint8_t)(list.first + k);
+    return list;
+}
+
+static struct table table(void)
+{
+    struct table table;
+    table.period = (uint32_t)number(UINT32_MAX);
+    table.size = (uint32_t)number(UINT32_MAX);
+    table.delays = list();
+    return table;
+}
+
+/* An answer, as its struct and as the words that are printed. */
+union answer {
+    uint64_t words[8];
+    seamwhisk_checked checked;
+    seamwhisk_planned planned;
+    seamwhisk_searched searched;
+    seamwhisk_read read;
+    seamwhisk_written written;
+    seamwhisk_reported reported;
+};
+
+static const union answer fresh = {{MARK, MARK, MARK, MARK, MARK, MARK, MARK, MARK}};
+
+static void print_answer(const union answer *answer, size_t count)
+{
+    for (size_t k = 0; k < count; k++)
+        printf("%s%" PRIu64, k == 0 ? "" : " ", answer->words[k]);
+    for (size_t k = count; k < 8; k++)
+        spilt = spilt || answer->words[k] != MARK;
+}
+
+static void print_lent(const struct numbers *list)
+{
+    for (size_t k = 0; k < list->length; k++)
+        printf(" %" PRIu32, list->at[k]);
+    for (size_t k = list->length; k < MOST_NUMBERS; k++)
+        spilt = spilt || list->at[k] != list->first + (uint32_t)k;
+}
+
+static void print_lent_bytes(const struct bytes *list)
+{
+    for (size_t k = 0; k < list->length; k++)
+        printf(" %u", list->at[k]);
+    for (size_t k = list->length; k < MOST_BYTES; k++)
+        spilt = spilt || list->at[k] != (uint8_t)(list->first + k);
+}
+
+static void check(void)
+{
+    struct table t = table();
+    struct numbers offsets = list();
+    union answer answer = fresh;
+    CALL(check)(t.period, t.size, t.delays.at, t.delays.length, offsets.at, offsets.length,
+                &answer.checked);
+    print_answer(&answer, 5);
+}
+
+static void first_fit(void)
+{
+    struct table t = table();
+    struct numbers offsets = lent();
+    union answer answer = fresh;
+    CALL(first_fit)(t.period, t.size, t.delays.at, t.delays.length, offsets.at, offsets.length,
+                    &answer.planned);
+    print_answer(&answer, 2);
+    print_lent(&offsets);
+}
+
+static void meta_offset(void)
+{
+    struct table t = table();
+    struct numbers offsets = lent();
+    union answer answer = fresh;
+    CALL(meta_offset)(t.period, t.size, t.delays.at, t.delays.length, offsets.at, offsets.length,
+                      &answer.planned);
+    print_answer(&answer, 2);
+    print_lent(&offsets);
+}
+
+static void exact(void)
+{
+    uint32_t period = (uint32_t)number(UINT32_MAX);
+    uint32_t size = (uint32_t)number(UINT32_MAX);
+    uint64_t budget = number(UINT64_MAX);
+    struct numbers delays = list();
+    struct numbers offsets = lent();
+    union answer answer = fresh;
+    CALL(exact)(period, size, delays.at, delays.length, budget, offsets.at, offsets.length,
+                &answer.searched);
+    print_answer(&answer, 3);
+    print_lent(&offsets);
+}
+
+static void read_table(void)
+{
+    struct bytes text = byte_list();
+    struct numbers delays = lent();
+    union answer answer = fresh;
+    CALL(read_table)(text.at, text.length, delays.at, delays.length, &answer.read);
+    print_answer(&answer, 5);
+    print_lent(&delays);
+}
+
+static void write_plan(void)
+{
+    struct table t = table();
+    struct numbers offsets = list();
+    struct bytes file = lent_bytes();
+    union answer answer = fresh;
+    CALL(write_plan)(t.period, t.size, t.delays.at, t.delays.length, offsets.at, offsets.length,
+                     file.at, file.length, &answer.written);
+    print_answer(&answer, 3);
+    print_lent_bytes(&file);
+}
+
+static void read_plan(void)
+{
+    struct bytes file = byte_list();
+    struct numbers delays = lent();
+    struct numbers offsets = lent();
+    union answer answer = fresh;
+    CALL(read_plan)(file.at, file.length, delays.at, delays.length, offsets.at, offsets.length,
+                    &answer.read);
+    print_answer(&answer, 5);
+    print_lent(&delays);
+    print_lent(&offsets);
+}
+
+static void report(void)
+{
+    struct table t = table();
+    struct numbers offsets = list();
+    union answer answer = fresh;
+    CALL(report)(t.period, t.size, t.delays.at, t.delays.length, offsets.at, offsets.length,
+                 &answer.reported);
+    print_answer(&answer, 8);
+}
+
+static void ceiling(void)
+{
+    printf("%" PRIu64, CALL(ceiling)((size_t)number(SIZE_MAX)));
+}
+
+/* A kind that has no C function. */
+static void none(void)
+{
+    while (*rest != '\0' && !wrong)
+        number(UINT64_MAX);
+    printf("-");
+}
+
+int main(void)
+{
+    static void (*const kinds[])(void) = {check,     first_fit, meta_offset, exact,   read_table,
+                                          write_plan, read_plan, report,     ceiling, none, none};
+    static char line[LINE_ROOM];
+    for (unsigned long count = 1; fgets(line, sizeof line, stdin) != NULL; count++) {
+        char *end = line;
+        while (*end != '\0' && *end != '\n')
+            end++;
+        wrong = *end == '\0';
+        *end = '\0';
+        rest = line;
+        uint64_t kind = number(11);
+        if (wrong || kind == 0) {
+            fprintf(stderr, "line %lu is not a case\n", count);
+            return 1;
+        }
+        kinds[kind - 1]();
+        putchar('\n');
+        if (wrong || *rest != '\0' || spilt) {
+            fprintf(stderr, "line %lu %s\n", count, spilt ? "wrote too far" : "is not a case");
+            return 1;
+        }
+    }
+    return 0;
+}
