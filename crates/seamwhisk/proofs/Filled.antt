@@ -8,4 +8,4 @@ use lib.ListN.{length}
 use lib.Seq.{sets, sets-eq, drop-length}
 
 pub filled : (xs vs : List ℕ) → length vs ≡ length xs → sets xs 0 vs ≡ vs
-filled xs vs e = sets-eq vs xs 0 (omega arith) ∙ rw (zero-add, e, drop-length, append-nil)
+filled xs vs e = sets-eq vs xs 0 (omega arith) ∙ rw (zero-add, e, drop-length) (append-nil vs)

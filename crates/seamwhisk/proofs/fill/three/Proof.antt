@@ -19,7 +19,6 @@ same-length : tie.Need-same-length
 same-length c = search needs
 
 returns : tie.Need-returns
-
 returns c = let w = c .args in filled (w .answer .now) (w .a ∷ w .b ∷ w .c ∷ []) (omega arith)
 
 pub three-spec : {M : Type 1} → statement M

@@ -16,7 +16,6 @@ same-length : tie.Need-same-length
 same-length c = search needs
 
 returns : tie.Need-returns
-
 returns c = let w = c .args in filled (w .answer .now) (w .a ∷ w .b ∷ []) (omega arith)
 
 pub two-spec : {M : Type 1} → statement M
