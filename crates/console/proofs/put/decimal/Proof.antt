@@ -1,0 +1,50 @@
+use mathlib.Core.Path.{_≡_, sym, _∙_, subst}
+use mathlib.Core.List.{List, [], _∷_}
+use Prim.Native.Nat.{ℕ, _+_, _-_, _≤_}
+use native.Mathlib.Omega.{arith}
+use lib.ListN.{length, take, drop, length-take, length-drop}
+use lib.Seq.{take-all}
+use Rattle.console.specs.Placed.{Adds}
+use Rattle.console.proofs.Spelling.{number-short}
+use borrow.Author.Needs.{needs}
+use Rattle.console.proofs.put.decimal.Statement.{statement}
+use Rattle.console.proofs.put.decimal.Tie as tie
+
+spell-requires : tie.Need-spell-requires
+spell-requires c κs = search needs
+
+sub-word : tie.Need-sub-word
+sub-word c = search needs
+
+part-word-start : tie.Need-part-word-start
+part-word-start c = search needs
+
+part-word-end : tie.Need-part-word-end
+part-word-end c = search needs
+
+word-requires : tie.Need-word-requires
+word-requires c κs = simp (length-take, length-drop) (omega arith)
+
+same-length : tie.Need-same-length
+same-length c = search needs
+
+returns : tie.Need-returns
+returns c =
+    let u = c .before .before .before .before .before .before .before .before .before .args in
+    let s = c .before .before .before .before .before .before .before .spell in
+    let call = c .before .before .word in
+    let all = take-all (20 - s .result .from) (drop (s .result .from) (s .result .digits)) (simp length-drop (omega arith)) ∙ s .ensures .2 in
+    let put = subst (λ (w : List ℕ). Adds (u .out .now) (u .at) w (call .result) (call .last .0)) all (call .ensures) in
+    (put, omega (arith, put .end, number-short (u .n)))
+
+pub decimal-spec : {M : Type 1} → statement M
+decimal-spec =
+    tie.close
+    (tie.spec
+    spell-requires
+    sub-word
+    part-word-start
+    part-word-end
+    word-requires
+    same-length
+    returns)

@@ -1,0 +1,87 @@
+-- There are never more step sequences than the ceiling. Assumes nothing.
+use mathlib.Core.Path.{_≡_, refl, sym, ap, _∙_, subst}
+use mathlib.Core.Bool.{Bool, true, false, not, cond}
+use mathlib.Core.List.{List, [], _∷_, _++_, map, List·Memᴰ, List·Memᴰ·head, List·Memᴰ·tail}
+use Prim.Native.Nat.{ℕ, zero, suc, _+_, _-_, _*_, _<_, _≤_}
+use native.Mathlib.Omega.{arith}
+use native.Mathlib.Nat.{le-trans, le-refl, mul-le-mul, add-mul, one-mul, suc-mul}
+use lib.ListN.{length, length-append, length-map}
+use Rattle.link.specs.Limits.{maxRows}
+use Rattle.link.specs.Rows.{one, two}
+use Rattle.search.specs.Steps.{Step, step, Rules, rules, placed, from, besides, rowSteps, steps}
+use Rattle.search.specs.Builds.{behind, sequences, begin, count}
+use Rattle.search.specs.Ceilings.{choices, products, ceilingOf}
+use Rattle.search.proofs.Ceilings.{nested, products-nested}
+use Rattle.search.proofs.Counts.{howMany, all-of, length-from}
+use Rattle.search.proofs.Listing.{steps-are}
+use Rattle.search.proofs.States.{At, put-at, begin-at}
+
+pub count-most : (f : List Step → Bool) (qs : List (List Step)) → count f qs ≤ length qs
+unfolding count
+count-most f [] = omega arith
+count-most f (q ∷ qs) = go (f q) (count-most f qs)
+  where
+    go : (b : Bool) → count f qs ≤ length qs → cond b 1 0 + count f qs ≤ suc (length qs)
+    go true h = omega arith
+    go false h = omega arith
+
+-- each candidate is one sequence, and has at most b behind it
+behind-most : (r : Rules) (d : List ℕ → List (List Step)) (s : List ℕ) (b : ℕ) (ks : List Step) → ((k : Step) → List·Memᴰ k ks → length (d (r .put s k)) ≤ b)
+    → length (behind r d s ks) ≤ length ks * (1 + b)
+unfolding behind
+behind-most r d s b [] h = omega arith
+behind-most r d s b (k ∷ ks) h =
+    let n = behind-most r d s b ks (λ x m. h x (List·Memᴰ·tail m)) in
+    let e = length-append (map (_∷_ k) ([] ∷ cond (r .good s k) (d (r .put s k)) [])) (behind r d s ks) in
+    let f : suc (length ks) * (1 + b) ≡ length ks * (1 + b) + (1 + b) = suc-mul (length ks) (1 + b) in
+    let g = length-map ([] ∷ cond (r .good s k) (d (r .put s k)) []) (_∷_ k) in
+    let w = few (r .good s k) (h k (List·Memᴰ·head refl)) in
+    omega arith
+  where
+    few : (x : Bool) → length (d (r .put s k)) ≤ b → length ([] ∷ cond x (d (r .put s k)) []) ≤ 1 + b
+    few true m = omega arith
+    few false m = omega arith
+
+module _ (p n : ℕ) (s : List ℕ) where
+  beside-two : (j i : ℕ) → length (besides p s j i) ≡ cond (placed p s i) 2 0
+  unfolding besides
+  beside-two j i = go (placed p s i)
+    where
+      go : (b : Bool) → length (cond b (step j i one ∷ step j i two ∷ []) []) ≡ cond b 2 0
+      go true = refl
+      go false = refl
+
+  row-length : (j : ℕ) → length (rowSteps p n s j) ≡ cond (not (placed p s j)) (2 * howMany (placed p s) 0 n) 0
+  unfolding rowSteps
+  row-length j = go (placed p s j)
+    where
+      go : (b : Bool) → length (cond b [] (from (besides p s j) 0 n)) ≡ cond (not b) (2 * howMany (placed p s) 0 n) 0
+      go true = refl
+      go false = length-from (besides p s j) (placed p s) 2 (beside-two j) 0 n
+
+  -- two for each row that is placed and each that is not
+  pub steps-length : length (steps p n s) ≡ 2 * howMany (placed p s) 0 n * howMany (λ i. not (placed p s i)) 0 n
+  unfolding steps
+  steps-length = length-from (rowSteps p n s) (λ i. not (placed p s i)) (2 * howMany (placed p s) 0 n) row-length 0 n
+
+module _ (p l : ℕ) (ds : List ℕ) (n : ℕ) (some : 0 < p) where
+  choices-at : (b u : ℕ) (s : List ℕ) → b + u ≡ n → At p n u s → length (steps p n s) ≡ choices n b
+  unfolding choices
+  choices-at b u s e a =
+      let f = all-of (placed p s) 0 n in
+      let x : howMany (placed p s) 0 n ≡ b = omega (arith, a .left) in
+      let y : n - b ≡ u = omega arith in
+      rw (steps-length p n s, x, y, a .left)
+
+  pub sequences-most : (u b : ℕ) (s : List ℕ) → b + u ≡ n → At p n u s → length (sequences (rules p l ds n) u s) ≤ nested (choices n) b u
+  unfolding sequences nested
+  sequences-most zero b s e a = omega arith
+  sequences-most (suc u) b s e a =
+      le-trans
+      (behind-most (rules p l ds n) (sequences (rules p l ds n) u) s (nested (choices n) (suc b) u) (steps p n s)
+      (λ k m. sequences-most u (suc b) _ (omega arith) (put-at p l ds s k n u some (steps-are p n s k m) a)))
+      (rw (choices-at b (suc u) s e a) (le-refl _))
+
+  pub below-ceiling : 0 < n → n ≤ maxRows → length (sequences (rules p l ds n) (n - 1) (begin p)) ≤ ceilingOf n
+  unfolding ceilingOf
+  below-ceiling hn few = rw (products-nested (choices n) 1 (n - 1)) (sequences-most (n - 1) 1 (begin p) (omega arith) (begin-at p n some hn few))

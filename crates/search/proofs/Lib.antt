@@ -1,0 +1,22 @@
+-- The laws behind the contracts of `search`, and its promises.
+pub mod Blocking
+pub mod Numbers
+pub mod Reducing
+pub mod Ceilings
+pub mod Orders
+pub mod Listing
+pub mod Sequences
+pub mod Counting
+pub mod Counts
+pub mod Moving
+pub mod States
+pub mod Completeness
+pub mod Finding
+pub mod Least
+pub mod Soundness
+pub mod Bounds
+pub mod Answering
+pub mod Trying
+pub mod Looping
+pub mod Planning
+pub mod Judging

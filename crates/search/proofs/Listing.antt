@@ -1,0 +1,127 @@
+-- The list of steps holds just the steps, in their order. Assumes nothing.
+use mathlib.Core.Path.{_≡_, refl, sym, ap, _∙_}
+use mathlib.Core.Logic.{_⊎_, inl, inr, ⊎-elim}
+use mathlib.Core.Bool.{Bool, true, false, _&&_, not, cond}
+use mathlib.Core.List.{List, [], _∷_, _++_, List·Memᴰ, List·Memᴰ·head, List·Memᴰ·tail, List·Memᴰ·cases-cons, List·Memᴰ·not-nil, List·Memᴰ·append-cases, Memᴰ·append-left, Memᴰ·append-right}
+use Prim.Native.Nat.{ℕ, zero, suc, _+_, _<_, _≤_}
+use native.Mathlib.Omega.{arith}
+use lib.Dec.{ltb}
+use borrow.Author.Tests.{lt-ltb, ltb-true, not-true}
+use Rattle.link.specs.Rows.{Crossing, one, two}
+use Rattle.link.proofs.Bools.{clash, lt-or-ge, and-parts, and-both}
+use Rattle.search.specs.Steps.{Step, step, placed, from, besides, rowSteps, steps, isStep}
+use Rattle.search.specs.Builds.{earlierStep}
+use Rattle.search.proofs.Orders.{Before, Sorted, sorted-append, sorted-one, row-first, beside-first, crossing-first}
+
+module _ {A : Type 0} (f : ℕ → List A) where
+  pub in-from : (a m i : ℕ) (x : A) → a ≤ i → i < a + m → List·Memᴰ x (f i) → List·Memᴰ x (from f a m)
+  unfolding from
+  in-from a zero i x h l e = absurd (omega arith)
+  in-from a (suc m) i x h l e =
+      ⊎-elim (λ q. Memᴰ·append-right (f a) (in-from (suc a) m i x (omega arith) (omega arith) e))
+      (λ q. let z : i ≡ a = omega arith in Memᴰ·append-left (from f (suc a) m) (rw z at e)) (lt-or-ge a i)
+
+  pub from-in : (a m : ℕ) (x : A) → List·Memᴰ x (from f a m) → (i : ℕ) × (a ≤ i) × (i < a + m) × List·Memᴰ x (f i)
+  unfolding from
+  from-in a zero x e = absurd (List·Memᴰ·not-nil e)
+  from-in a (suc m) x e =
+      ⊎-elim (λ q. (a, omega arith, omega arith, q))
+      (λ q. let w = from-in (suc a) m x q in (w .0, omega (arith, w .1), omega (arith, w .2), w .3)) (List·Memᴰ·append-cases (f a) e)
+
+  pub from-sorted : (lt : A → A → Bool) → ((i : ℕ) → Sorted lt (f i)) → ((i j : ℕ) → i < j → (x y : A) → List·Memᴰ x (f i) → List·Memᴰ y (f j) → lt x y ≡ true)
+      → (a m : ℕ) → Sorted lt (from f a m)
+  unfolding from
+  from-sorted lt s h a zero = tt
+  from-sorted lt s h a (suc m) =
+      sorted-append lt (f a) (from f (suc a) m) (s a) (from-sorted lt s h (suc a) m)
+      (λ x e y g. let w = from-in (suc a) m y g in h a (w .0) (omega (arith, w .1)) x y e (w .3))
+
+module _ (p : ℕ) (s : List ℕ) (j : ℕ) where
+  beside-in : (i : ℕ) (c : Crossing) → placed p s i ≡ true → List·Memᴰ (step j i c) (besides p s j i)
+  unfolding besides
+  beside-in i one e = rw e (List·Memᴰ·head refl)
+  beside-in i two e = rw e (List·Memᴰ·tail (List·Memᴰ·head refl))
+
+  -- what stands beside the row i
+  record Beside (i : ℕ) (k : Step) : Type 0 where
+    crossed : Crossing
+    is : k ≡ step j i crossed
+    there : placed p s i ≡ true
+
+  in-beside : (i : ℕ) (k : Step) → List·Memᴰ k (besides p s j i) → Beside i k
+  unfolding besides
+  in-beside i k m = go (placed p s i) refl m
+    where
+      go : (b : Bool) → placed p s i ≡ b → List·Memᴰ k (cond b (step j i one ∷ step j i two ∷ []) []) → Beside i k
+      go true e h =
+          ⊎-elim (λ q. record { crossed = one; is = q; there = e })
+          (λ q. ⊎-elim (λ r. record { crossed = two; is = r; there = e }) (λ r. absurd (List·Memᴰ·not-nil r)) (List·Memᴰ·cases-cons q)) (List·Memᴰ·cases-cons h)
+      go false e h = absurd (List·Memᴰ·not-nil h)
+
+  beside-sorted : (i : ℕ) → Sorted earlierStep (besides p s j i)
+  unfolding besides
+  beside-sorted i = go (placed p s i)
+    where
+      go : (b : Bool) → Sorted earlierStep (cond b (step j i one ∷ step j i two ∷ []) [])
+      go true =
+          (λ y m. ⊎-elim (λ q. rw q (crossing-first j i)) (λ q. absurd (List·Memᴰ·not-nil q)) (List·Memᴰ·cases-cons m), sorted-one earlierStep (step j i two))
+      go false = tt
+
+  besides-apart : (i l : ℕ) → i < l → (x y : Step) → List·Memᴰ x (besides p s j i) → List·Memᴰ y (besides p s j l) → earlierStep x y ≡ true
+  besides-apart i l h x y a b =
+      let u = in-beside i x a in
+      let v = in-beside l y b in
+      rw (u .is, v .is) (beside-first j i l (u .crossed) (v .crossed) h)
+
+module _ (p n : ℕ) (s : List ℕ) where
+  -- what a row's steps are
+  record OfRow (j : ℕ) (k : Step) : Type 0 where
+    free : placed p s j ≡ false
+    other : ℕ
+    low : other < n
+    at : Beside p s j other k
+
+  in-row : (j : ℕ) (k : Step) → List·Memᴰ k (rowSteps p n s j) → OfRow j k
+  unfolding rowSteps
+  in-row j k m = go (placed p s j) refl m
+    where
+      go : (b : Bool) → placed p s j ≡ b → List·Memᴰ k (cond b [] (from (besides p s j) 0 n)) → OfRow j k
+      go true e h = absurd (List·Memᴰ·not-nil h)
+      go false e h =
+          let w = from-in (besides p s j) 0 n k h in
+          record { free = e; other = w .0; low = omega (arith, w .2); at = in-beside p s j (w .0) k (w .3) }
+
+  row-sorted : (j : ℕ) → Sorted earlierStep (rowSteps p n s j)
+  unfolding rowSteps
+  row-sorted j = go (placed p s j)
+    where
+      go : (b : Bool) → Sorted earlierStep (cond b [] (from (besides p s j) 0 n))
+      go true = tt
+      go false = from-sorted (besides p s j) earlierStep (beside-sorted p s j) (besides-apart p s j) 0 n
+
+  rows-apart : (i l : ℕ) → i < l → (x y : Step) → List·Memᴰ x (rowSteps p n s i) → List·Memᴰ y (rowSteps p n s l) → earlierStep x y ≡ true
+  rows-apart i l h x y a b = let u = in-row i x a in let v = in-row l y b in rw (u .at .is, v .at .is) (row-first _ _ h)
+
+  -- "Steps are ordered by j, then i, then crossing."
+  pub steps-sorted : Sorted earlierStep (steps p n s)
+  unfolding steps
+  steps-sorted = from-sorted (rowSteps p n s) earlierStep row-sorted rows-apart 0 n
+
+  -- "A step names a row j not yet placed, a placed row i, and a crossing (1 or 2).": each such step is in the list, and nothing else
+  pub steps-have : (k : Step) → isStep p n s k ≡ true → List·Memᴰ k (steps p n s)
+  unfolding steps isStep rowSteps
+  steps-have k e =
+      let w = and-parts (ltb (k .row) n && ltb (k .beside) n) (not (placed p s (k .row)) && placed p s (k .beside)) e in
+      let u = and-parts (ltb (k .row) n) (ltb (k .beside) n) (w .0) in
+      let v = and-parts (not (placed p s (k .row))) (placed p s (k .beside)) (w .1) in
+      let a : k .row < n = ltb-true _ _ (u .0) in
+      let b : k .beside < n = ltb-true _ _ (u .1) in
+      in-from (rowSteps p n s) 0 n (k .row) k (omega arith) (omega arith)
+      (rw (not-true (placed p s (k .row)) (v .0)) (in-from (besides p s (k .row)) 0 n (k .beside) k (omega arith) (omega arith) (beside-in p s (k .row) (k .beside) (k .crossing) (v .1))))
+
+  pub steps-are : (k : Step) → List·Memᴰ k (steps p n s) → isStep p n s k ≡ true
+  unfolding steps isStep
+  steps-are k m =
+      let w = from-in (rowSteps p n s) 0 n k m in
+      let r = in-row (w .0) k (w .3) in
+      rw (r .at .is, lt-ltb (w .0) n (omega (arith, w .2)), lt-ltb (r .other) n (r .low), r .free, r .at .there)

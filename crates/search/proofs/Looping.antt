@@ -1,0 +1,95 @@
+-- The loop over the candidates: an answer to what is left is an answer to the whole. Assumes nothing.
+use mathlib.Core.Path.{_≡_, refl, sym, ap, _∙_, subst}
+use mathlib.Core.Bool.{Bool, true, false, cond}
+use mathlib.Core.List.{List, [], _∷_}
+use Prim.Native.Nat.{ℕ, zero, suc, _+_, _-_, _*_, _<_, _≤_}
+use native.Mathlib.Omega.{arith}
+use Rattle.link.specs.Limits.{maxRows}
+use Rattle.search.specs.Steps.{Step, Rules, rules, steps, isStep}
+use Rattle.search.specs.Builds.{Out, found, none}
+use Rattle.search.specs.Search.{more, orElse, tried, walk, deep, Answered, Table, Starts, stepAt, Next}
+use Rattle.search.specs.declared.Hunt.{Hunt}
+use Rattle.search.specs.declared.Hunt.the-variants.{Found, Nothing, Spent}
+use Rattle.search.proofs.Answering.{ended, all-placed, broke, spent-more, is-nothing, is-spent, or-found, or-spent, or-next}
+use Rattle.search.proofs.Numbers.{stepsFrom, none-from, step-from, next-from, all-from}
+
+pub whole : (r : Rules) (v : ℕ) (s : List ℕ) (l : ℕ) → v ≡ 0 → Answered l s (deep r v s) (Found l) s
+unfolding deep
+whole r v s l e = rw (e, deep) (all-placed l s)
+
+deep-suc : (r : Rules) (u : ℕ) (s : List ℕ) → deep r (suc u) s ≡ walk r (deep r u) s (r .steps s)
+unfolding deep
+deep-suc r u s = refl
+
+-- the offsets are those of the start, and `left` tests are left for the candidates from k on
+pub record Going (p l : ℕ) (ds : List ℕ) (n v budget : ℕ) (s xs ys : List ℕ) (left k : ℕ) : Type 0 where
+  pub same : xs ≡ s
+  pub starts : Starts p ds n xs ys
+  pub high : k ≤ n * (2 * maxRows)
+  pub lands : k < n * (2 * maxRows) → isStep p n xs (stepAt k) ≡ true
+  pub rest : (h : Hunt) (s′ : List ℕ) → Answered left s (walk (rules p l ds n) (deep (rules p l ds n) (v - 1)) s (stepsFrom p n s k)) h s′
+      → Answered budget s (deep (rules p l ds n) v s) h s′
+
+module _ (p l : ℕ) (ds : List ℕ) (n : ℕ) (t : Table p l ds n) (v : ℕ) (some : v ≡ 0 → ⊥) (budget : ℕ) (s : List ℕ) where
+  abbrev d : List ℕ → Out
+  d = deep (rules p l ds n) (v - 1)
+
+  deep-walk : deep (rules p l ds n) v s ≡ walk (rules p l ds n) d s (steps p n s)
+  deep-walk = let e : v ≡ suc (v - 1) = omega arith in ap (λ (x : ℕ). deep (rules p l ds n) x s) e ∙ deep-suc (rules p l ds n) (v - 1) s
+
+  pub begins : (ys : List ℕ) (k : ℕ) → Starts p ds n s ys → Next p n s 0 k → Going p l ds n v budget s s ys budget k
+  begins ys k st x =
+      record {
+        same = refl;
+        starts = st;
+        high = x .high;
+        lands = x .lands;
+        rest = λ h s′ a. rw (deep-walk, all-from p n (t .rows) s, next-from p n s 0 k x) a;
+      }
+
+  walk-none : (ks : List Step) → ks ≡ [] → walk (rules p l ds n) d s ks ≡ none 0
+  unfolding walk
+  walk-none ks e = rw (e, walk)
+
+  walk-step : (k : Step) (ks ms : List Step) → ms ≡ k ∷ ks → walk (rules p l ds n) d s ms ≡ more 1 (orElse (tried (rules p l ds n) d s k) (walk (rules p l ds n) d s ks))
+  unfolding walk
+  walk-step k ks ms e = rw (e, walk)
+
+  module _ (xs ys : List ℕ) (left k : ℕ) (g : Going p l ds n v budget s xs ys left k) where
+    pub no-more : n * (2 * maxRows) ≤ k → Answered budget s (deep (rules p l ds n) v s) (Nothing left) xs
+    no-more h = g .rest (Nothing left) xs (rw (walk-none _ (none-from p n s k h), g .same) (ended left s))
+
+    module _ (h : k < n * (2 * maxRows)) where
+      from-here : stepsFrom p n s k ≡ stepAt k ∷ stepsFrom p n s (k + 1)
+      from-here = step-from p n s k h (rw (g .same) at (g .lands h))
+
+      abbrev later : Out
+      later = walk (rules p l ds n) d s (stepsFrom p n s (k + 1))
+
+      pub is-broke : left ≡ 0 → Answered budget s (deep (rules p l ds n) v s) Spent xs
+      is-broke z = g .rest Spent xs (rw (walk-step (stepAt k) (stepsFrom p n s (k + 1)) _ from-here, g .same) (broke left s _ z))
+
+      module _ (z : left ≡ 0 → ⊥) (s′ : List ℕ) where
+        counted : (h : Hunt) (s″ : List ℕ) → Answered (left - 1) s (orElse (tried (rules p l ds n) d s (stepAt k)) later) h s″ → Answered budget s (deep (rules p l ds n) v s) h s″
+        counted h s″ a = g .rest h s″ (rw (walk-step (stepAt k) (stepsFrom p n s (k + 1)) _ from-here) (spent-more left 1 s _ h s″ (omega arith) a))
+
+        pub one-finds : (m : ℕ) → Answered (left - 1) xs (tried (rules p l ds n) d xs (stepAt k)) (Found m) s′ → Answered budget s (deep (rules p l ds n) v s) (Found m) s′
+        one-finds m a = counted (Found m) s′ (or-found (left - 1) s s′ _ later m (rw (g .same) at a))
+
+        pub one-runs-out : Answered (left - 1) xs (tried (rules p l ds n) d xs (stepAt k)) Spent s′ → Answered budget s (deep (rules p l ds n) v s) Spent s′
+        one-runs-out a =
+            let b = rw (g .same) at a in
+            rw (is-spent (left - 1) s s′ _ b .1) (counted Spent s (or-spent (left - 1) s s′ _ later b))
+
+        pub one-in-vain : (m : ℕ) (ys′ : List ℕ) (k′ : ℕ) → Answered (left - 1) xs (tried (rules p l ds n) d xs (stepAt k)) (Nothing m) s′ → Starts p ds n s′ ys′ → Next p n s′ (k + 1) k′
+            → Going p l ds n v budget s s′ ys′ m k′
+        one-in-vain m ys′ k′ a st x =
+            let b : Answered (left - 1) s (tried (rules p l ds n) d s (stepAt k)) (Nothing m) s′ = rw (g .same) at a in
+            let e : s′ ≡ s = is-nothing (left - 1) s s′ _ m b .4 in
+            record {
+              same = e;
+              starts = st;
+              high = x .high;
+              lands = x .lands;
+              rest = λ h s″ c. counted h s″ (or-next (left - 1) s s′ _ later m h s″ b (rw (next-from p n s (k + 1) k′ (rw e at x)) c));
+            }

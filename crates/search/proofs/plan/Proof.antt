@@ -1,0 +1,139 @@
+-- The table is put within the period, the search starts from row 0, and its answer is told in the paper's words.
+use mathlib.Core.Path.{_≡_, sym, ap, _∙_}
+use mathlib.Core.List.{_++_}
+use Prim.Native.Nat.{ℕ, _≤_}
+use native.Mathlib.Omega.{arith}
+use lib.ListN.{length, drop}
+use lib.Seq.{length-take-le}
+use Rattle.link.specs.Limits.{maxRows}
+use Rattle.search.specs.Answer.{Outcome, said, outcome}
+use Rattle.search.proofs.Answering.{told-as, is-found, is-nothing}
+use Rattle.search.proofs.Planning.{begin-starts, low-delays, turns-table, is-planned, found-outcome, nothing-outcome, spent-outcome, in-array, copied-out}
+use borrow.Author.Needs.{needs}
+use Rattle.search.proofs.plan.Statement.{statement}
+use Rattle.search.proofs.plan.Tie as tie
+
+span-requires : tie.Need-span-requires
+span-requires c κs = search needs
+
+reduced-requires : tie.Need-reduced-requires
+reduced-requires c κs = search needs
+
+array-write-xs : tie.Need-array-write-xs
+array-write-xs c = search needs
+
+array-read-ys : tie.Need-array-read-ys
+array-read-ys c = search needs
+
+array-write-ys : tie.Need-array-write-ys
+array-write-ys c = search needs
+
+sub-descend : tie.Need-sub-descend
+sub-descend c = search needs
+
+descend-requires : tie.Need-descend-requires
+descend-requires c κs =
+    let r = c .before .before .before in
+    let e = r .before .before .before .before in
+    (turns-table _ _ (r .before .span .ensures) _ (r .reduced .result) (e .pre .0) (r .reduced .ensures), begin-starts _ _ _ (e .pre .0 .rows-high) (low-delays _ _ (r .before .span .ensures) _ (r .reduced .result) (e .pre .0) (r .reduced .ensures) 0))
+
+enum-known-left : tie.Need-enum-known-left
+enum-known-left c = search needs
+
+array-share-prefix-xs : tie.Need-array-share-prefix-xs
+array-share-prefix-xs c = search needs
+
+slice-aggregate-copy-out : tie.Need-slice-aggregate-copy-out
+slice-aggregate-copy-out c =
+    let d = c .before .before .before .before in
+    let e = d .before .before .before .before .before .before .before .before in
+    sym (length-take-le _ _ (omega (arith, d .descend .ensures .1 .xs-length, e .pre .0 .rows-high)))
+
+copy-out-requires : tie.Need-copy-out-requires
+copy-out-requires c κs =
+    let d = c .before .before .before .before .before in
+    let e = d .before .before .before .before .before .before .before .before in
+    rw (length-take-le _ _ (in-array (d .descend .ensures .1 .xs-length) (e .pre .0 .rows-high))) (e .pre .1)
+
+sub-t32 : tie.Need-sub-t32
+sub-t32 c =
+    let f = c .before .before .before .before .before .before in
+    let d = f .before .before in
+    let w = is-found _ _ _ _ _ (told-as (f .left .given .1) (d .descend .ensures .0)) in
+    omega (arith, w .3)
+
+enum-known-left-2 : tie.Need-enum-known-left-2
+enum-known-left-2 c = search needs
+
+sub-t33 : tie.Need-sub-t33
+sub-t33 c =
+    let f = c .before in
+    let d = f .before .before in
+    let w = is-nothing _ _ _ _ _ (told-as (f .left2 .given .1) (d .descend .ensures .0)) in
+    omega (arith, w .3)
+
+enum-told : tie.Need-enum-told
+enum-told c = search needs
+
+same-length : tie.Need-same-length
+same-length c = search needs
+
+returns : tie.Need-returns
+unfolding said
+returns c =
+    let u = c .before .before in
+    let f = u .before .before .before .before in
+    let d = f .before .before in
+    let r = d .before .before .before .before in
+    let e = r .before .before .before .before in
+    let o = ap (outcome _ _ _) (sym (is-planned _ _ (r .before .span .ensures) _ (r .reduced .result) (e .pre .0) (r .reduced .ensures)))
+    ∙ found-outcome _ _ _ _ _ _ _ (told-as (f .left .given .1) (d .descend .ensures .0)) in (
+      ap (λ (x : Outcome). x .says) (sym o),
+      copied-out (length (e .args .delays .now)) (d .descend .last .1 .1 .1 .0) _ _ (d .descend .ensures .1 .xs-length) (e .pre .0 .rows-high) (u .copy-out .ensures)
+          ∙ ap (λ (x : Outcome). x .leaves) (sym o),
+    )
+
+returns-2 : tie.Need-returns-2
+unfolding said
+returns-2 c =
+    let f = c .before in
+    let d = f .before .before in
+    let r = d .before .before .before .before in
+    let e = r .before .before .before .before in
+    let o = ap (outcome _ _ _) (sym (is-planned _ _ (r .before .span .ensures) _ (r .reduced .result) (e .pre .0) (r .reduced .ensures)))
+    ∙ nothing-outcome _ _ _ _ _ _ _ (told-as (f .left2 .given .1) (d .descend .ensures .0)) in
+    (ap (λ (x : Outcome). x .says) (sym o), ap (λ (x : Outcome). x .leaves) (sym o))
+
+returns-3 : tie.Need-returns-3
+unfolding said
+returns-3 c =
+    let d = c .before .before in
+    let r = d .before .before .before .before in
+    let e = r .before .before .before .before in
+    let o = ap (outcome _ _ _) (sym (is-planned _ _ (r .before .span .ensures) _ (r .reduced .result) (e .pre .0) (r .reduced .ensures)))
+    ∙ spent-outcome _ _ _ _ _ _ (told-as (c .enum-told .given .1) (d .descend .ensures .0)) in
+    (ap (λ (x : Outcome). x .says) (sym o), ap (λ (x : Outcome). x .leaves) (sym o))
+
+pub plan-spec : {M : Type 1} → statement M
+plan-spec =
+    tie.close
+    (tie.spec
+    span-requires
+    reduced-requires
+    array-write-xs
+    array-read-ys
+    array-write-ys
+    sub-descend
+    descend-requires
+    enum-known-left
+    array-share-prefix-xs
+    slice-aggregate-copy-out
+    copy-out-requires
+    sub-t32
+    enum-known-left-2
+    sub-t33
+    enum-told
+    same-length
+    returns
+    returns-2
+    returns-3)

@@ -1,0 +1,65 @@
+-- What the exact planner answers, and what it leaves in the lent list.
+use mathlib.Core.Path.{_≡_}
+use mathlib.Core.Bool.{Bool, cond}
+use mathlib.Core.List.{List, _++_}
+use Prim.Native.Nat.{ℕ}
+use lib.Dec.{ltb}
+use lib.ListN.{length, take, drop}
+use Rattle.link.specs.Limits.{noBuild, budgetSpent}
+use Rattle.link.specs.Rows.{spanOf}
+use Rattle.link.specs.Refusal.{first, exactFaults}
+use Rattle.link.specs.declared.Link.{Link}
+use Rattle.link.specs.declared.Judged.{Judged}
+use Rattle.link.specs.declared.Judged.the-variants.{Fine, Fault}
+use Rattle.search.specs.Builds.{Out, found, none, planned}
+use Rattle.search.specs.declared.Answer.{Answer}
+use Rattle.search.specs.declared.Answer.the-variants.{Plan, None, Spent, Refused}
+
+pub data Verdict : Type 0 where
+  plan nothing spent refusal : Verdict
+
+-- "Fields of an answer that don't apply are 0; 14 carries its tests and 15 the budget."
+pub record Said : Type 0 where
+  pub verdict : Verdict
+  pub number : ℕ
+  pub place : ℕ
+  pub tests : ℕ
+
+abbrev pub says : Verdict → ℕ → ℕ → ℕ → Said
+says v n p t = record { verdict = v; number = n; place = p; tests = t }
+
+unfoldable pub said : Answer → Said
+said (Plan t) = says plan 0 0 t
+said (None t) = says nothing noBuild 0 t
+said (Spent t) = says spent budgetSpent 0 t
+said (Refused n p) = says refusal n p 0
+
+-- an answer, and the lent list as it is left
+pub record Outcome : Type 0 where
+  pub says : Said
+  pub leaves : List ℕ
+
+abbrev pub gives : Said → List ℕ → Outcome
+gives s l = record { says = s; leaves = l }
+
+-- "If this number is above the budget, the answer is 15 with tests equal to the budget; otherwise tests is that number."
+unfoldable pub within : ℕ → ℕ → List ℕ → Outcome → Outcome
+within budget tests old o = cond (ltb budget tests) (gives (says spent budgetSpent 0 budget) old) o
+
+-- "A lent buffer longer than needed keeps its tail. .. every verdict but a plan leaves all output buffers .." n rows
+unfoldable pub outcome : ℕ → ℕ → List ℕ → Out → Outcome
+outcome budget n old (found s t) = within budget t old (gives (says plan 0 0 t) (take n s ++ drop n old))
+outcome budget n old (none t) = within budget t old (gives (says nothing noBuild 0 t) old)
+
+abbrev pub judged : Judged → Outcome → List ℕ → Outcome
+judged Fine o old = o
+judged (Fault n p) o old = gives (says refusal n p 0) old
+
+-- 5, 6, 8, 7, 11, 12, then 15, 14 or a plan
+unfoldable pub exactly : Link → List ℕ → ℕ → List ℕ → Outcome
+exactly k ds budget old = judged (first (exactFaults k ds (length old))) (outcome budget (length ds) old (planned (k .period) (spanOf k) ds)) old
+
+-- the contract: the answer r, and the list `new` where `old` stood
+pub record Answers (k : Link) (ds : List ℕ) (budget : ℕ) (old : List ℕ) (r : Answer) (new : List ℕ) : Type 0 where
+  pub told : said r ≡ exactly k ds budget old .says
+  pub left : new ≡ exactly k ds budget old .leaves

@@ -1,0 +1,6 @@
+-- The definitions that the contracts of `search` cite.
+pub mod Steps
+pub mod Builds
+pub mod Ceilings
+pub mod Answer
+pub mod Search

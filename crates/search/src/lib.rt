@@ -1,0 +1,276 @@
+// The exact planner: the offsets of the least whole build, or that there is none.
+use link::Judged;
+use link::Link;
+use link::limits::MAX_EXACT_ROWS;
+use link::limits::MAX_ROWS;
+ghost use mathlib.Core.Path.{_≡_};
+ghost use mathlib.Core.Bool.{true};
+ghost use mathlib.Core.List.{_++_};
+ghost use Prim.Native.Nat.{ℕ, _<_, _≤_, _*_, _%_};
+ghost use lib.ListN.{length, getD, drop};
+ghost use Rattle.link.specs.Limits.{maxPeriod, maxRows};
+ghost use Rattle.link.specs.Rows.{spanOf, second};
+ghost use Rattle.link.specs.Range.{GoodTable};
+ghost use Rattle.search.specs.Steps.{rules, puts, isStep};
+ghost use Rattle.search.specs.Builds.{planned};
+ghost use Rattle.search.specs.Ceilings.{ceilingUpTo};
+ghost use Rattle.search.specs.Answer.{said, outcome, Answers};
+ghost use Rattle.search.specs.Search.{Table, Starts, Answered, tried, deep, blocked, unblocked, stepAt, Next};
+
+pub enum Answer {
+    Plan { tests: u64 },
+    None { tests: u64 },
+    Spent { tests: u64 },
+    Refused { number: u32, place: usize },
+}
+
+// How a search ended, with the tests that are left.
+enum Hunt {
+    Found(u64),
+    Nothing(u64),
+    Spent,
+}
+
+// The numbers of the steps of one row: two for each other row.
+const ROW: usize = 2 * MAX_ROWS;
+
+// a + b, round the period.
+fn turn(p: u32, a: u32, b: u32) -> u32
+    requires { ⌜ (p ≤ maxPeriod) × (a < p) × (b ≤ p) ⌝ }
+    ensures { λ r. ⌜ (r ≡ second p b a) × (r < p) ⌝ }
+{
+    let s = a + b;
+    if s < p {
+        return s;
+    }
+    s - p
+}
+
+// Whether a row with the starts x and y is placed and meets a row with the starts a and b.
+fn meets(p: u32, l: u32, a: u32, b: u32, x: u32, y: u32) -> bool
+    ensures { λ r. ⌜ r ≡ blocked p l a b x y ⌝ }
+{
+    if p <= x {
+        return false;
+    }
+    if !link::apart(p, l, x, a) {
+        return true;
+    }
+    !link::apart(p, l, y, b)
+}
+
+// Whether a row with the starts a and b meets no placed row.
+fn is_free(p: u32, l: u32, xs: &[u32; 64], ys: &[u32; 64], rows: usize, a: u32, b: u32) -> bool
+    requires { ⌜ rows ≤ maxRows ⌝ }
+    ensures { λ r. ⌜ r ≡ unblocked p l (now (xs .entry)) (now (ys .entry)) rows a b ⌝ }
+{
+    let mut i: usize = 0;
+    while i < rows {
+        if meets(p, l, a, b, xs[i], ys[i]) {
+            return false;
+        }
+        i += 1;
+    }
+    true
+}
+
+// The number of the first step from a number on.
+fn next_step(p: u32, xs: &[u32; 64], rows: usize, from: usize) -> usize
+    requires { ⌜ (rows ≤ maxRows) × (from ≤ rows * (2 * maxRows)) ⌝ }
+    ensures { λ r. ⌜ Next p rows (now (xs .entry)) from r ⌝ }
+{
+    let mut k = from;
+    while k < rows * ROW {
+        let j = k / ROW;
+        if xs[j] < p {
+            k = (j + 1) * ROW;
+            continue;
+        }
+        let i = k / 2 % MAX_ROWS;
+        if rows <= i {
+            k = (j + 1) * ROW;
+            continue;
+        }
+        if xs[i] < p {
+            return k;
+        }
+        k += 2 - k % 2;
+    }
+    k
+}
+
+// Where a step puts its row.
+fn offset(
+    p: u32,
+    l: u32,
+    delays: &[u32; 64],
+    xs: &[u32; 64],
+    ys: &[u32; 64],
+    rows: usize,
+    k: usize,
+) -> u32
+    requires { ⌜ Table p l (now delays) rows × Starts p (now delays) rows (now xs) (now ys) × (isStep p rows (now xs) (stepAt k) ≡ true) ⌝ }
+    ensures { λ r. ⌜ (r ≡ puts p l (now (delays .entry)) (now (xs .entry)) (stepAt k)) × (r < p) ⌝ }
+{
+    let i = k / 2 % MAX_ROWS;
+    if k % 2 == 0 {
+        return turn(p, xs[i], l);
+    }
+    turn(p, turn(p, ys[i], l), p - delays[k / ROW])
+}
+
+// Tries the step k: where it is good, the rows that are then left are placed.
+fn try_step(
+    p: u32,
+    l: u32,
+    delays: &[u32; 64],
+    xs: &mut [u32; 64],
+    ys: &mut [u32; 64],
+    rows: usize,
+    unplaced: usize,
+    k: usize,
+    left: u64,
+) -> Hunt
+    requires { ⌜ Table p l (now delays) rows × Starts p (now delays) rows (now xs) (now ys) × (k < rows * (2 * maxRows)) × (isStep p rows (now xs) (stepAt k) ≡ true) ⌝ }
+    ensures { λ r. ⌜ Answered left (now (xs .entry)) (tried (rules p l (now (delays .entry)) rows) (deep (rules p l (now (delays .entry)) rows) unplaced) (now (xs .entry)) (stepAt k)) r (now (xs .exit)) ⌝ }
+    ensures { λ r. ⌜ Starts p (now (delays .entry)) rows (now (xs .exit)) (now (ys .exit)) ⌝ }
+{
+    let j = k / ROW;
+    let a = offset(p, l, delays, xs, ys, rows, k);
+    let b = turn(p, a, delays[j]);
+    if !is_free(p, l, xs, ys, rows, a, b) {
+        return Hunt::Nothing(left);
+    }
+    let old = xs[j];
+    xs[j] = a;
+    ys[j] = b;
+    let deeper = descend(p, l, delays, xs, ys, rows, unplaced, left);
+    match deeper {
+        Hunt::Found(rest) => Hunt::Found(rest),
+        Hunt::Nothing(rest) => {
+            xs[j] = old;
+            Hunt::Nothing(rest)
+        }
+        Hunt::Spent => {
+            xs[j] = old;
+            Hunt::Spent
+        }
+    }
+}
+
+// Places the rows that are left, `unplaced` of them.
+fn descend(
+    p: u32,
+    l: u32,
+    delays: &[u32; 64],
+    xs: &mut [u32; 64],
+    ys: &mut [u32; 64],
+    rows: usize,
+    unplaced: usize,
+    budget: u64,
+) -> Hunt
+    requires { ⌜ Table p l (now delays) rows × Starts p (now delays) rows (now xs) (now ys) ⌝ }
+    ensures { λ r. ⌜ Answered budget (now (xs .entry)) (deep (rules p l (now (delays .entry)) rows) unplaced (now (xs .entry))) r (now (xs .exit)) ⌝ }
+    ensures { λ r. ⌜ Starts p (now (delays .entry)) rows (now (xs .exit)) (now (ys .exit)) ⌝ }
+{
+    if unplaced == 0 {
+        return Hunt::Found(budget);
+    }
+    let mut left = budget;
+    let mut k = next_step(p, xs, rows, 0);
+    while k < rows * ROW {
+        if left == 0 {
+            return Hunt::Spent;
+        }
+        let deeper = try_step(p, l, delays, xs, ys, rows, unplaced - 1, k, left - 1);
+        match deeper {
+            Hunt::Found(rest) => {
+                return Hunt::Found(rest);
+            }
+            Hunt::Spent => {
+                return Hunt::Spent;
+            }
+            Hunt::Nothing(rest) => {
+                left = rest;
+                k = next_step(p, xs, rows, k + 1);
+            }
+        }
+    }
+    Hunt::Nothing(left)
+}
+
+// The delays within the period.
+fn reduced(p: u32, delays: &[u32]) -> [u32; 64]
+    requires { ⌜ (0 < p) × (length (now delays) ≤ maxRows) ⌝ }
+    ensures { λ r. ⌜ ((i : ℕ) → getD r i 0 ≡ getD (now (delays .entry)) i 0 % p) ⌝ }
+{
+    let mut turns = [0u32; 64];
+    let mut i: usize = 0;
+    while i < delays.len() {
+        turns[i] = delays[i] % p;
+        i += 1;
+    }
+    turns
+}
+
+// The front of `to` is replaced by `from`.
+fn copy_out(from: &[u32], to: &mut [u32])
+    requires { ⌜ length (now from) ≤ length (now to) ⌝ }
+    ensures { λ _. ⌜ now (to .exit) ≡ now (from .entry) ++ drop (length (now (from .entry))) (now (to .entry)) ⌝ }
+{
+    let mut i = 0;
+    while i < from.len() {
+        to[i] = from[i];
+        i += 1;
+    }
+}
+
+// The answer for values in range.
+fn plan(link: Link, delays: &[u32], budget: u64, offsets: &mut [u32]) -> Answer
+    requires { ⌜ GoodTable link (now delays) × (length (now delays) ≤ length (now offsets)) ⌝ }
+    ensures { λ r. ⌜ said r ≡ outcome budget (length (now (delays .entry))) (now (offsets .entry)) (planned (link .period) (spanOf link) (now (delays .entry))) .says ⌝ }
+    ensures { λ r. ⌜ now (offsets .exit) ≡ outcome budget (length (now (delays .entry))) (now (offsets .entry)) (planned (link .period) (spanOf link) (now (delays .entry))) .leaves ⌝ }
+{
+    let p = link.period;
+    let l = link::span(link);
+    let rows = delays.len();
+    let turns = reduced(p, delays);
+    let mut xs = [p; 64];
+    let mut ys = [0u32; 64];
+    xs[0] = 0;
+    ys[0] = turns[0];
+    match descend(p, l, &turns, &mut xs, &mut ys, rows, rows - 1, budget) {
+        Hunt::Found(left) => {
+            copy_out(&xs[..rows], offsets);
+            Answer::Plan {
+                tests: budget - left,
+            }
+        }
+        Hunt::Nothing(left) => Answer::None {
+            tests: budget - left,
+        },
+        Hunt::Spent => Answer::Spent { tests: budget },
+    }
+}
+
+// The offsets of the least whole build. 5, 6, 8, 7, 11, 12, then 15, 14 or a plan.
+pub fn exact(link: Link, delays: &[u32], budget: u64, offsets: &mut [u32]) -> Answer
+    ensures { λ r. ⌜ Answers link (now (delays .entry)) budget (now (offsets .entry)) r (now (offsets .exit)) ⌝ }
+{
+    match link::judge::exact(link, delays, offsets.len()) {
+        Judged::Fault { number, place } => Answer::Refused { number, place },
+        Judged::Fine => plan(link, delays, budget, offsets),
+    }
+}
+
+const CEILINGS: [u64; 9] = [0, 0, 2, 20, 342, 10472, 509930, 36086652, 3493657790];
+
+// A number that the tests of so many rows never pass; 0 where the planner takes no such table.
+pub fn ceiling(rows: usize) -> u64
+    ensures { λ r. ⌜ r ≡ ceilingUpTo rows ⌝ }
+{
+    if rows > MAX_EXACT_ROWS {
+        return 0;
+    }
+    CEILINGS[rows]
+}

@@ -1,0 +1,110 @@
+-- Lines and the text that they make: a text of lines without byte 10 in them has just these lines. Assumes nothing.
+use mathlib.Core.Path.{_≡_, refl, sym, ap, _∙_}
+use mathlib.Core.Bool.{Bool, true, false}
+use mathlib.Core.List.{List, [], _∷_, _++_, append-assoc}
+use Prim.Native.Nat.{ℕ, zero, suc, _+_, _-_, _≤_, _<_}
+use native.Mathlib.Omega.{arith}
+use native.Mathlib.Numerals.{add-one}
+use lib.Dec.{ltb, eqb}
+use lib.ListN.{length, getD, take, drop, length-append, length-drop, List·getD-append}
+use lib.Seq.{take-add, take-suc, drop-cons, drop-drop, take-append-seam, drop-append-add, getD-append-seam, drop-length, take-length}
+use borrow.Author.Tests.{ltb-true, lt-ltb, ne-eqb, eq-eqb, eqb-true, eqb-false}
+use Rattle.link.specs.Least.{least}
+use Rattle.link.proofs.Minimum.{least-is, least-at}
+use Rattle.text.specs.Bytes.{newline, seek}
+use Rattle.text.specs.Lines.{nextLine, begin, lineFrom, endedFrom, line, ended}
+use Rattle.text.specs.Writing.{glue}
+use Rattle.text.proofs.Finding.{Without, seek-first}
+use Rattle.text.proofs.Walk.{ended-low}
+
+-- no byte of l is 10
+abbrev pub Free : List ℕ → Type 0
+Free l = Without newline l
+
+abbrev pub AllFree : List (List ℕ) → Type 0
+AllFree [] = Unit
+AllFree (l ∷ ls) = Free l × AllFree ls
+
+pub all-free-append : (ls ms : List (List ℕ)) → AllFree ls → AllFree ms → AllFree (ls ++ ms)
+all-free-append [] ms f g = g
+all-free-append (l ∷ ls) ms f g = (f .0, all-free-append ls ms (f .1) g)
+
+free-line : (ls : List (List ℕ)) → AllFree ls → (k : ℕ) → k < length ls → Free (getD ls k [])
+free-line [] f k h = absurd (omega arith)
+free-line (l ∷ ls) f zero h = f .0
+free-line (l ∷ ls) f (suc k) h = free-line ls (f .1) k (omega arith)
+
+-- the first line of a text, and what is behind it
+module _ (x l r : List ℕ) (at : ℕ) (e : drop at x ≡ l ++ newline ∷ r) (f : Free l) where
+  found-line : lineFrom x at ≡ l
+  unfolding lineFrom
+  found-line = rw (e, seek-first newline l r f) (take-append-seam l (newline ∷ r))
+
+  found-end : endedFrom x at ≡ true
+  unfolding endedFrom
+  found-end = rw (e, seek-first newline l r f) (lt-ltb (length l) (length (l ++ newline ∷ r)) (omega (arith, length-append l (newline ∷ r))))
+
+  found-next : drop (nextLine x at) x ≡ r
+  unfolding nextLine
+  found-next =
+      let s : seek newline (drop at x) ≡ length l = rw e (seek-first newline l r f) in
+      let n : at + seek newline (drop at x) + 1 ≡ at + (length l + 1) = omega arith in
+      ap (λ (k : ℕ). drop k x) n ∙ sym (drop-drop (length l + 1) at x) ∙ ap (drop (length l + 1)) e ∙ drop-append-add l (newline ∷ r) 1
+
+-- the lines of a text that is glued of lines
+module _ (ls : List (List ℕ)) (f : AllFree ls) where
+  rest-at : (k : ℕ) → k ≤ length ls → drop (begin (glue ls) k) (glue ls) ≡ glue (drop k ls)
+  unfolding begin glue
+  rest-at zero h = refl
+  rest-at (suc k) h =
+      found-next (glue ls) (getD ls k []) (glue (drop (suc k) ls)) (begin (glue ls) k)
+      (rest-at k (omega arith) ∙ ap glue (drop-cons ls k [] h)) (free-line ls f k h)
+
+  starts : (k : ℕ) → k < length ls → drop (begin (glue ls) k) (glue ls) ≡ getD ls k [] ++ newline ∷ glue (drop (suc k) ls)
+  unfolding glue
+  starts k h = rest-at k (omega arith) ∙ ap glue (drop-cons ls k [] h)
+
+  pub line-at : (k : ℕ) → k < length ls → line (glue ls) k ≡ getD ls k []
+  line-at k h = found-line (glue ls) (getD ls k []) (glue (drop (suc k) ls)) (begin (glue ls) k) (starts k h) (free-line ls f k h)
+
+  pub ended-at : (k : ℕ) → k < length ls → ended (glue ls) k ≡ true
+  ended-at k h = found-end (glue ls) (getD ls k []) (glue (drop (suc k) ls)) (begin (glue ls) k) (starts k h) (free-line ls f k h)
+
+  pub end-at : (m : ℕ) → length ls ≡ suc m → begin (glue ls) (suc m) ≡ length (glue ls)
+  unfolding glue
+  end-at m e =
+      let r : drop (begin (glue ls) (suc m)) (glue ls) ≡ [] = rest-at (suc m) (omega arith) ∙ ap (λ (k : ℕ). glue (drop k ls)) (sym e) ∙ ap glue (drop-length ls) in
+      omega (arith, ended-low (glue ls) m (ended-at m (omega arith)), length-drop (begin (glue ls) (suc m)) (glue ls), ap length r)
+
+-- a text and its first m lines
+abbrev pub linesTo : List ℕ → ℕ → List (List ℕ)
+linesTo x zero = []
+linesTo x (suc m) = linesTo x m ++ line x m ∷ []
+
+glue-more : (ls : List (List ℕ)) (l : List ℕ) → glue (ls ++ l ∷ []) ≡ glue ls ++ (l ++ newline ∷ [])
+unfolding glue
+glue-more [] l = refl
+glue-more (m ∷ ls) l = ap (λ (r : List ℕ). m ++ newline ∷ r) (glue-more ls l) ∙ sym (append-assoc m (newline ∷ glue ls) (l ++ newline ∷ []))
+
+module _ (x : List ℕ) where
+  one-line : (k : ℕ) → ended x k ≡ true → take (begin x (suc k)) x ≡ take (begin x k) x ++ (line x k ++ newline ∷ [])
+  unfolding begin nextLine lineFrom endedFrom seek
+  one-line k e =
+      let rest = drop (begin x k) x in
+      let s = seek newline rest in
+      let l : s < length rest = ltb-true s (length rest) e in
+      let t : getD rest s 0 ≡ newline = eqb-true _ _ (least-is (λ i. eqb (getD rest i 0) newline) (length rest) .here l) in
+      let n : begin x k + s + 1 ≡ begin x k + suc s = omega arith in
+      ap (λ (m : ℕ). take m x) n ∙ take-add (begin x k) (suc s) x
+      ∙ ap (λ (r : List ℕ). take (begin x k) x ++ r) (take-suc rest s 0 l ∙ ap (λ (b : ℕ). take s rest ++ b ∷ []) t)
+
+  lines-glued : (m : ℕ) → ((k : ℕ) → k < m → ended x k ≡ true) → take (begin x m) x ≡ glue (linesTo x m)
+  unfolding begin glue
+  lines-glued zero h = refl
+  lines-glued (suc m) h =
+      one-line m (h m (omega arith)) ∙ ap (λ (r : List ℕ). r ++ (line x m ++ newline ∷ [])) (lines-glued m (λ k l. h k (omega arith)))
+      ∙ sym (glue-more (linesTo x m) (line x m))
+
+  -- a text that ends with its line m is made of these lines
+  pub all-glued : (m : ℕ) → ((k : ℕ) → k < m → ended x k ≡ true) → begin x m ≡ length x → x ≡ glue (linesTo x m)
+  all-glued m h e = sym (take-length x) ∙ ap (λ (n : ℕ). take n x) (sym e) ∙ lines-glued m h

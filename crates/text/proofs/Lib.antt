@@ -1,0 +1,20 @@
+-- Laws that belong to no one function.
+pub mod ForLink
+pub mod Decimals
+pub mod Parts
+pub mod LineForms
+pub mod Lined
+pub mod Walk
+pub mod Right
+pub mod Delays
+pub mod Answers
+pub mod Head
+pub mod Spelling
+pub mod Finding
+pub mod Gluing
+pub mod Forms
+pub mod Texts
+pub mod Taken
+pub mod Lost
+pub mod Promises
+pub mod Worked

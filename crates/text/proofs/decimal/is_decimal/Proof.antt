@@ -1,0 +1,38 @@
+use lib.ListN.{length}
+-- The length, then a leading zero, then each byte.
+use mathlib.Core.Path.{sym, _∙_}
+use native.Mathlib.Omega.{arith}
+use Rattle.link.proofs.Faults.{below, above, inside}
+use Rattle.text.specs.Decimal.{maxDigits, isDecimal}
+use borrow.Author.Needs.{needs}
+use Rattle.text.proofs.decimal.is_decimal.Statement.{statement}
+use Rattle.text.proofs.decimal.is_decimal.Tie as tie
+
+returns : tie.Need-returns
+unfolding isDecimal
+returns c = rw (below 1 maxDigits _ (c .if1 .taken))
+
+returns-2 : tie.Need-returns-2
+unfolding isDecimal
+returns-2 c = rw (above 1 maxDigits _ (c .if2 .taken))
+
+leading-zero-requires : tie.Need-leading-zero-requires
+leading-zero-requires c κs = search needs
+
+returns-3 : tie.Need-returns-3
+unfolding isDecimal
+returns-3 c = rw (inside 1 maxDigits (length (c .before .before .before .before .before .args .bytes .now)) (omega arith) (omega arith), sym (c .before .leading-zero .ensures) ∙ c .if3 .taken)
+
+all-digits-requires : tie.Need-all-digits-requires
+all-digits-requires c κs = search needs
+
+returns-4 : tie.Need-returns-4
+unfolding isDecimal
+returns-4 c = let bs = c .before .before .before .before .before .before .args .bytes .now in
+    rw (inside 1 maxDigits (length bs) (omega arith) (omega arith), sym (c .before .before .leading-zero .ensures) ∙ c .before .if3 .left)
+    (c .all-digits .ensures)
+
+pub is-decimal-spec : {M : Type 1} → statement M
+is-decimal-spec =
+    tie.close
+    (tie.spec returns returns-2 leading-zero-requires returns-3 all-digits-requires returns-4)

@@ -1,0 +1,34 @@
+-- Bytes: where a byte comes first, and fixed byte strings that are compared.
+use mathlib.Core.Bool.{Bool, not, _&&_}
+use mathlib.Core.List.{List, [], _∷_}
+use Prim.Native.Nat.{ℕ}
+use lib.Dec.{leb, eqb}
+use lib.ListN.{length, getD, take}
+use Rattle.link.specs.Least.{least, some}
+
+-- "ends with byte 10"
+abbrev pub newline : ℕ
+newline = 10
+
+abbrev pub space : ℕ
+space = 32
+
+-- the place of the first byte b in xs, or the length of xs where there is none
+unfoldable pub seek : ℕ → List ℕ → ℕ
+seek b xs = least (λ i. eqb (getD xs i 0) b) (length xs)
+
+-- xs and ys are as long as each other, and differ at no place
+unfoldable pub same : List ℕ → List ℕ → Bool
+same xs ys = eqb (length xs) (length ys) && not (some (λ i. not (eqb (getD xs i 0) (getD ys i 0))) (length xs))
+
+-- xs begins with the bytes of a word
+unfoldable pub begins : List ℕ → List ℕ → Bool
+begins word xs = leb (length word) (length xs) && same word (take (length word) xs)
+
+-- `pma 1`
+abbrev pub titleWord : List ℕ
+titleWord = 112 ∷ 109 ∷ 97 ∷ 32 ∷ 49 ∷ []
+
+-- `end` and a space
+abbrev pub endWord : List ℕ
+endWord = 101 ∷ 110 ∷ 100 ∷ 32 ∷ []

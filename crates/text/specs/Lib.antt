@@ -1,0 +1,7 @@
+-- The definitions that the contracts of `text` cite.
+pub mod Bytes
+pub mod Decimal
+pub mod Lines
+pub mod Faults
+pub mod Reading
+pub mod Writing

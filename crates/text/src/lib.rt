@@ -1,0 +1,164 @@
+// The reader of the text table: any bytes end in a table, or in a numbered refusal at its byte.
+pub mod bytes;
+pub mod decimal;
+pub mod judge;
+
+use link::Judged;
+use link::limits::BAD_LENGTH;
+use link::limits::BYTES_AFTER;
+use link::limits::CUT_LINE;
+use link::limits::LONG_TEXT;
+use link::limits::MAX_TEXT;
+ghost use mathlib.Core.Path.{_≡_};
+ghost use mathlib.Core.List.{_++_};
+ghost use Prim.Native.Nat.{_≤_, _+_};
+ghost use lib.ListN.{length, drop};
+ghost use Rattle.link.specs.Refusal.{first};
+ghost use Rattle.link.specs.declared.Judged.the-variants.{Fine};
+ghost use Rattle.text.specs.Bytes.{newline, seek};
+ghost use Rattle.text.specs.Lines.{begin};
+ghost use Rattle.text.specs.Faults.{textFaults, rowsOf};
+ghost use Rattle.text.specs.Reading.{said, reading, accepted, judging, delaysOf, lineSays};
+
+// A text with nothing wrong in it: its rows, and the place behind its last line.
+pub enum Text {
+    Whole { rows: usize, end: usize },
+    Broken { number: u32, place: usize },
+}
+
+pub enum Read {
+    Table { period: u32, size: u32, rows: usize },
+    Refused { number: u32, place: usize },
+}
+
+// One line with nothing wrong in it: the place behind it, and whether it is the last.
+enum Line {
+    More { next: usize },
+    Last { next: usize },
+    Wrong { number: u32, place: usize },
+}
+
+// Where the line from `at` ends: its byte 10, or the end of the text.
+fn line_end(text: &[u8], at: usize) -> usize
+    requires { ⌜ at ≤ length (now text) ⌝ }
+    ensures { λ r. ⌜ (r ≡ at + seek newline (drop at (now (text .entry)))) × (r ≤ length (now (text .entry))) ⌝ }
+{
+    at + bytes::seek(&text[at..], b'\n')
+}
+
+// Line k, which begins at `at`: 3, then what is wrong with it by itself.
+fn judge_line(text: &[u8], at: usize, k: usize) -> Line
+    requires { ⌜ at ≤ length (now text) ⌝ }
+    ensures { λ r. ⌜ r ≡ lineSays (now (text .entry)) at k ⌝ }
+{
+    let end = line_end(text, at);
+    if end >= text.len() {
+        return Line::Wrong {
+            number: CUT_LINE,
+            place: at,
+        };
+    }
+    let line = &text[at..end];
+    match judge::own(line, at, k) {
+        Judged::Fault { number, place } => Line::Wrong { number, place },
+        Judged::Fine => {
+            if k < 2 {
+                return Line::More { next: end + 1 };
+            }
+            if judge::is_last(line) {
+                return Line::Last { next: end + 1 };
+            }
+            Line::More { next: end + 1 }
+        }
+    }
+}
+
+// The lines from the start, up to the last one or the first fault.
+pub fn judge_text(text: &[u8]) -> Text
+    ensures { λ r. ⌜ r ≡ judging (now (text .entry)) ⌝ }
+{
+    let mut at: usize = 0;
+    let mut k: usize = 0;
+    loop {
+        match judge_line(text, at, k) {
+            Line::Wrong { number, place } => {
+                return Text::Broken { number, place };
+            }
+            Line::Last { next } => {
+                return Text::Whole {
+                    rows: k - 2,
+                    end: next,
+                };
+            }
+            Line::More { next } => {
+                at = next;
+                k += 1;
+            }
+        }
+    }
+}
+
+// The delays of a whole text, whose third line begins at `at`, go into the front of the list.
+fn write_delays(text: &[u8], at: usize, rows: usize, delays: &mut [u32])
+    requires { ⌜ first (textFaults (now text)) ≡ Fine ⌝ }
+    requires { ⌜ (rows ≡ rowsOf (now text)) × (rows ≤ length (now delays)) × (at ≡ begin (now text) 2) ⌝ }
+    ensures { λ _. ⌜ now (delays .exit) ≡ delaysOf (now (text .entry)) rows ++ drop rows (now (delays .entry)) ⌝ }
+{
+    let mut from = at;
+    let mut i = 0;
+    while i < rows {
+        let end = line_end(text, from);
+        delays[i] = decimal::value(&text[from..end]);
+        from = end + 1;
+        i += 1;
+    }
+}
+
+// The table of a whole text.
+fn take_table(text: &[u8], rows: usize, delays: &mut [u32]) -> Read
+    requires { ⌜ first (textFaults (now text)) ≡ Fine ⌝ }
+    requires { ⌜ (rows ≡ rowsOf (now text)) × (rows ≤ length (now delays)) ⌝ }
+    ensures { λ r. ⌜ said r ≡ accepted (now (text .entry)) (now (delays .entry)) .says ⌝ }
+    ensures { λ r. ⌜ now (delays .exit) ≡ accepted (now (text .entry)) (now (delays .entry)) .leaves ⌝ }
+{
+    let second = line_end(text, 0) + 1;
+    let end = line_end(text, second);
+    let link = judge::link_of(&text[second..end]);
+    write_delays(text, end + 1, rows, delays);
+    Read::Table {
+        period: link.period,
+        size: link.size,
+        rows,
+    }
+}
+
+// A text and nothing behind it: 1, the faults of its lines, 10, 11; or its table, with the delays in the front of the list.
+pub fn read_table(text: &[u8], delays: &mut [u32]) -> Read
+    ensures { λ r. ⌜ said r ≡ reading (now (text .entry)) (now (delays .entry)) .says ⌝ }
+    ensures { λ r. ⌜ now (delays .exit) ≡ reading (now (text .entry)) (now (delays .entry)) .leaves ⌝ }
+{
+    if text.len() > MAX_TEXT {
+        return Read::Refused {
+            number: LONG_TEXT,
+            place: 0,
+        };
+    }
+    match judge_text(text) {
+        Text::Broken { number, place } => Read::Refused { number, place },
+        Text::Whole { rows, end } => {
+            if end < text.len() {
+                return Read::Refused {
+                    number: BYTES_AFTER,
+                    place: end,
+                };
+            }
+            if delays.len() < rows {
+                return Read::Refused {
+                    number: BAD_LENGTH,
+                    place: 0,
+                };
+            }
+            take_table(text, rows, delays)
+        }
+    }
+}
