@@ -3,7 +3,10 @@ use mathlib.Core.List.{List, [], _∷_}
 use Prim.Native.Nat.{ℕ}
 use Rattle.link.specs.declared.Link.{Link}
 use Rattle.checker.specs.Answer.{Said as Checked}
-use Rattle.quick.specs.Answer.{Outcome}
+use Rattle.quick.specs.Answer.{Outcome as Planned}
+use Rattle.report.specs.Answer.{Said as Reported}
+use Rattle.search.specs.Answer.{Outcome as Searched}
+use Rattle.text.specs.Reading.{Outcome as Read}
 
 abbrev pub linkOf : ℕ → ℕ → Link
 linkOf p t = record { period = p; size = t }
@@ -21,5 +24,21 @@ abbrev pub left : List ℕ → List ℕ → Left
 left ns xs = record { numbers = ns; leaves = xs }
 
 -- number, place
-abbrev pub plannedAs : Outcome → Left
+abbrev pub plannedAs : Planned → Left
 plannedAs o = left (o .answer .number ∷ o .answer .place ∷ []) (o .leaves)
+
+-- number, place, tests
+abbrev pub searchedAs : Searched → Left
+searchedAs o = left (o .says .number ∷ o .says .place ∷ o .says .tests ∷ []) (o .leaves)
+
+-- number, place, period, size, rows
+abbrev pub readAs : Read → Left
+readAs o = left (o .says .number ∷ o .says .place ∷ o .says .period ∷ o .says .size ∷ o .says .rows ∷ []) (o .leaves)
+
+-- number, place, and free, stretches and widest of each crossing
+abbrev pub reportedAs : Reported → List ℕ
+reportedAs s =
+    s .number ∷ s .place
+    ∷ s .first .free ∷ s .first .stretches ∷ s .first .widest
+    ∷ s .second .free ∷ s .second .stretches ∷ s .second .widest
+    ∷ []

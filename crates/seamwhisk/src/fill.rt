@@ -30,3 +30,17 @@ pub fn five(answer: &mut [u64], a: u64, b: u64, c: u64, d: u64, e: u64)
     answer[3] = d;
     answer[4] = e;
 }
+
+pub fn eight(answer: &mut [u64], a: u64, b: u64, c: u64, d: u64, e: u64, f: u64, g: u64, h: u64)
+    requires { ⌜ length (now answer) ≡ 8 ⌝ }
+    ensures { λ _. ⌜ now (answer .exit) ≡ (a ∷ b ∷ c ∷ d ∷ e ∷ f ∷ g ∷ h ∷ []) ⌝ }
+{
+    answer[0] = a;
+    answer[1] = b;
+    answer[2] = c;
+    answer[3] = d;
+    answer[4] = e;
+    answer[5] = f;
+    answer[6] = g;
+    answer[7] = h;
+}

@@ -3,11 +3,20 @@ mod fill;
 
 use checker::Checked;
 use link::Link;
+use link::limits::BUDGET_SPENT;
+use link::limits::NO_BUILD;
 use quick::Planned;
+use report::Reported;
+use search::Answer;
+use text::Read;
 ghost use mathlib.Core.Path.{_≡_};
 ghost use Rattle.checker.specs.Answer.{answer as Answer·checked};
 ghost use Rattle.quick.specs.Answer.{firstFit, metaOffset};
-ghost use Rattle.seamwhisk.specs.Numbers.{linkOf, left, checkedAs, plannedAs};
+ghost use Rattle.report.specs.Answer.{answer as Answer·reported};
+ghost use Rattle.search.specs.Answer.{exactly};
+ghost use Rattle.search.specs.Ceilings.{ceilingUpTo};
+ghost use Rattle.text.specs.Reading.{reading};
+ghost use Rattle.seamwhisk.specs.Numbers.{linkOf, left, checkedAs, plannedAs, searchedAs, readAs, reportedAs};
 
 #[no_mangle]
 pub extern "C" fn seamwhisk_check(
@@ -61,5 +70,73 @@ pub extern "C" fn seamwhisk_meta_offset(
     match quick::meta_offset(Link { period, size }, delays, offsets) {
         Planned::Plan => fill::two(answer, 0, 0),
         Planned::Refused { number, place } => fill::two(answer, number as u64, place as u64),
+    }
+}
+
+#[no_mangle]
+pub extern "C" fn seamwhisk_exact(
+    period: u32,
+    size: u32,
+    delays: &[u32],
+    budget: u64,
+    offsets: &mut [u32],
+    answer: &mut [u64; 3],
+)
+    ensures { λ _. ⌜ left (now (answer .exit)) (now (offsets .exit)) ≡ searchedAs (exactly (linkOf period size) (now (delays .entry)) budget (now (offsets .entry))) ⌝ }
+{
+    match search::exact(Link { period, size }, delays, budget, offsets) {
+        Answer::Plan { tests } => fill::three(answer, 0, 0, tests),
+        Answer::None { tests } => fill::three(answer, NO_BUILD as u64, 0, tests),
+        Answer::Spent { tests } => fill::three(answer, BUDGET_SPENT as u64, 0, tests),
+        Answer::Refused { number, place } => fill::three(answer, number as u64, place as u64, 0),
+    }
+}
+
+#[no_mangle]
+pub extern "C" fn seamwhisk_ceiling(rows: usize) -> u64
+    ensures { λ r. ⌜ r ≡ ceilingUpTo rows ⌝ }
+{
+    search::ceiling(rows)
+}
+
+#[no_mangle]
+pub extern "C" fn seamwhisk_read_table(text: &[u8], delays: &mut [u32], answer: &mut [u64; 5])
+    ensures { λ _. ⌜ left (now (answer .exit)) (now (delays .exit)) ≡ readAs (reading (now (text .entry)) (now (delays .entry))) ⌝ }
+{
+    match text::read_table(text, delays) {
+        Read::Table { period, size, rows } => {
+            fill::five(answer, 0, 0, period as u64, size as u64, rows as u64)
+        }
+        Read::Refused { number, place } => {
+            fill::five(answer, number as u64, place as u64, 0, 0, 0)
+        }
+    }
+}
+
+#[no_mangle]
+pub extern "C" fn seamwhisk_report(
+    period: u32,
+    size: u32,
+    delays: &[u32],
+    offsets: &[u32],
+    answer: &mut [u64; 8],
+)
+    ensures { λ _. ⌜ now (answer .exit) ≡ reportedAs (Answer·reported (linkOf period size) (now (delays .entry)) (now (offsets .entry))) ⌝ }
+{
+    match report::report(Link { period, size }, delays, offsets) {
+        Reported::Stretches { first, second } => fill::eight(
+            answer,
+            0,
+            0,
+            first.free as u64,
+            first.stretches as u64,
+            first.widest as u64,
+            second.free as u64,
+            second.stretches as u64,
+            second.widest as u64,
+        ),
+        Reported::Refused { number, place } => {
+            fill::eight(answer, number as u64, place as u64, 0, 0, 0, 0, 0, 0)
+        }
     }
 }

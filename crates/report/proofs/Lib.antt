@@ -1,0 +1,14 @@
+-- Laws that belong to no one function.
+pub mod ForLink
+pub mod ForChecker
+pub mod Counts
+pub mod Widths
+pub mod Summed
+pub mod Stretches
+pub mod Covering
+pub mod Walking
+pub mod Crossings
+pub mod Total
+pub mod Judging
+pub mod Promises
+pub mod Worked

@@ -1,0 +1,54 @@
+-- What the stretch report answers.
+use mathlib.Core.List.{List}
+use Prim.Native.Nat.{ℕ}
+use Rattle.link.specs.Limits.{notClear}
+use Rattle.link.specs.Rows.{one, two}
+use Rattle.link.specs.declared.Link.{Link}
+use Rattle.checker.specs.Answer.{clear, collision, refusal}
+use Rattle.checker.specs.Answer as checker
+use Rattle.report.specs.Free.{isFree, stretchOf}
+use Rattle.report.specs.declared.Stretch.{Stretch}
+use Rattle.report.specs.declared.Reported.{Reported}
+use Rattle.report.specs.declared.Reported.the-variants.{Stretches, Refused}
+
+pub data Verdict : Type 0 where
+  reported refused : Verdict
+
+-- the paper's form of an answer: six numbers, three for each crossing, or a refusal
+pub record Said : Type 0 where
+  pub verdict : Verdict
+  pub number : ℕ
+  pub place : ℕ
+  pub first : Stretch
+  pub second : Stretch
+
+-- "Fields of an answer that don't apply are 0"
+abbrev pub noStretch : Stretch
+noStretch = record { free = 0; stretches = 0; widest = 0 }
+
+abbrev pub telling : Stretch → Stretch → Said
+telling a b = record { verdict = reported; number = 0; place = 0; first = a; second = b }
+
+abbrev pub refusing : ℕ → ℕ → Said
+refusing n p = record { verdict = refused; number = n; place = p; first = noStretch; second = noStretch }
+
+unfoldable pub said : Reported → Said
+said (Stretches a b) = telling a b
+said (Refused n p) = refusing n p
+
+-- "For a clear plan and each crossing"; the line of slots is cut here: "from slot 0 to slot P-1, not joined across the end"
+unfoldable pub told : ℕ → ℕ → List ℕ → List ℕ → Said
+told p t ds os = telling (stretchOf (isFree p t ds os one) p) (stretchOf (isFree p t ds os two) p)
+
+-- the checker's refusals are the report's; "A plan that isn't clear is refused with 18", "later row"
+abbrev pub onClear : checker.Verdict → ℕ → ℕ → ℕ → Said → Said
+onClear clear number place later s = s
+onClear collision number place later s = refusing notClear later
+onClear refusal number place later s = refusing number place
+
+abbrev pub unless : checker.Said → Said → Said
+unless c s = onClear (c .verdict) (c .number) (c .place) (c .later) s
+
+-- 5, 6, 8, 7, 11, 17, 18, then the report
+unfoldable pub answer : Link → List ℕ → List ℕ → Said
+answer k ds os = unless (checker.answer k ds os) (told (k .period) (k .size) ds os)
