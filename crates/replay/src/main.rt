@@ -85,15 +85,19 @@ fn case(line: &[u8]) {
     let at = kind.next;
     let k = kind.value;
     match k {
-        1 => table_and_offsets(line, at),
+        1 | 8 => table_and_offsets(line, at, k),
         2 | 3 => table_and_room(line, at, k),
+        4 => table_and_budget(line, at),
+        5 => text_and_room(line, at),
+        9 => ceiling(line, at),
+        11 => input(line, at),
         _ => {}
     }
     show::end();
 }
 
-// A table and its offsets.
-fn table_and_offsets(line: &[u8], at: usize) {
+// A table and its offsets: checked, or reported.
+fn table_and_offsets(line: &[u8], at: usize, kind: u64) {
     let period = cases::number(line, at);
     let size = cases::number(line, period.next);
     let mut ds = [0u32; 132];
@@ -102,13 +106,25 @@ fn table_and_offsets(line: &[u8], at: usize) {
     let offsets = cases::list(line, delays.next, &mut os);
     let n = delays.count;
     let m = offsets.count;
-    check(cases::word(period), cases::word(size), &ds[..n], &os[..m]);
+    let p = cases::word(period);
+    let t = cases::word(size);
+    if kind == 1 {
+        check(p, t, &ds[..n], &os[..m]);
+    } else {
+        report(p, t, &ds[..n], &os[..m]);
+    }
 }
 
 fn check(period: u32, size: u32, delays: &[u32], offsets: &[u32]) {
     let mut answer = [0u64; 5];
     seamwhisk::seamwhisk_check(period, size, delays, offsets, &mut answer);
     show::five(&answer);
+}
+
+fn report(period: u32, size: u32, delays: &[u32], offsets: &[u32]) {
+    let mut answer = [0u64; 8];
+    seamwhisk::seamwhisk_report(period, size, delays, offsets, &mut answer);
+    show::eight(&answer);
 }
 
 // A table and a lent list for its offsets.
@@ -142,4 +158,65 @@ fn meta_offset(period: u32, size: u32, delays: &[u32], offsets: &mut [u32]) {
     seamwhisk::seamwhisk_meta_offset(period, size, delays, offsets, &mut answer);
     show::two(&answer);
     show::list(offsets);
+}
+
+// A table, a budget and a lent list for its offsets.
+fn table_and_budget(line: &[u8], at: usize) {
+    let period = cases::number(line, at);
+    let size = cases::number(line, period.next);
+    let budget = cases::number(line, size.next);
+    let mut ds = [0u32; 132];
+    let delays = cases::list(line, budget.next, &mut ds);
+    let mut os = [0u32; 132];
+    let offsets = cases::lent(line, delays.next, &mut os);
+    let n = delays.count;
+    let m = offsets.count;
+    exact(
+        cases::word(period),
+        cases::word(size),
+        &ds[..n],
+        budget.value,
+        &mut os[..m],
+    );
+}
+
+fn exact(period: u32, size: u32, delays: &[u32], budget: u64, offsets: &mut [u32]) {
+    let mut answer = [0u64; 3];
+    seamwhisk::seamwhisk_exact(period, size, delays, budget, offsets, &mut answer);
+    show::three(&answer);
+    show::list(offsets);
+}
+
+fn ceiling(line: &[u8], at: usize) {
+    let n = cases::number(line, at);
+    show::one(seamwhisk::seamwhisk_ceiling(n.value as usize));
+}
+
+// A text and a lent list for its delays.
+fn text_and_room(line: &[u8], at: usize) {
+    let mut bytes = [0u8; 1100];
+    let text = cases::bytes(line, at, &mut bytes);
+    let mut ds = [0u32; 132];
+    let delays = cases::lent(line, text.next, &mut ds);
+    let n = text.count;
+    let m = delays.count;
+    read_table(&bytes[..n], &mut ds[..m]);
+}
+
+fn read_table(text: &[u8], delays: &mut [u32]) {
+    let mut answer = [0u64; 5];
+    seamwhisk::seamwhisk_read_table(text, delays, &mut answer);
+    show::five(&answer);
+    show::list(delays);
+}
+
+// The input of the program `exact`.
+fn input(line: &[u8], at: usize) {
+    let mut bytes = [0u8; 1100];
+    let given = cases::bytes(line, at, &mut bytes);
+    let n = given.count;
+    let mut out = [0u8; 256];
+    let k = console::run(&bytes[..n], &mut out);
+    show::one(k as u64);
+    show::bytes(&out[..k]);
 }

@@ -12,6 +12,10 @@ fn next(x: u64) {
 }
 
 // The numbers of an answer, which begin the line.
+pub fn one(x: u64) {
+    first(x);
+}
+
 pub fn two(xs: &[u64; 2]) {
     first(xs[0]);
     next(xs[1]);
@@ -29,6 +33,17 @@ pub fn five(xs: &[u64; 5]) {
     next(xs[2]);
     next(xs[3]);
     next(xs[4]);
+}
+
+pub fn eight(xs: &[u64; 8]) {
+    first(xs[0]);
+    next(xs[1]);
+    next(xs[2]);
+    next(xs[3]);
+    next(xs[4]);
+    next(xs[5]);
+    next(xs[6]);
+    next(xs[7]);
 }
 
 fn next_word(x: u32) {
