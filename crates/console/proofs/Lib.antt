@@ -3,3 +3,4 @@ pub mod Adding
 pub mod Spelling
 pub mod Lines
 pub mod Showing
+pub mod Worked

@@ -1,0 +1,30 @@
+-- Document 01's program example, and the damaged one, from input bytes to output bytes. Assumes nothing.
+use mathlib.Core.Path.{_≡_, refl}
+use mathlib.Core.List.{List, [], _∷_}
+use Prim.Native.Nat.{ℕ}
+use Rattle.link.specs.Least.{oneMore, least}
+use Rattle.link.specs.Refusal.{first, outside, andThen, linkFaults, rowFaults, roomFaults, exactFaults}
+use Rattle.link.specs.Rows.{second, start, hits, either}
+use Rattle.link.specs.Slots.{uses, meets}
+use Rattle.text.specs.Bytes as bytes
+use Rattle.text.specs.Decimal as decimal
+use Rattle.text.specs.Faults as faults
+use Rattle.text.specs.Lines as lines
+use Rattle.text.specs.Reading as reading
+use Rattle.text.specs.Writing.{digitsIn}
+use Rattle.console.specs.Printed.{noneLine, foundLines, refusedLine, offsetLines, planned, printed}
+
+-- `pma 1`, `10 2`, `0`, `3`, `7`, `end 3` with the byte between 3 and 7 lost
+abbrev damaged : List ℕ
+damaged =
+    112 ∷ 109 ∷ 97 ∷ 32 ∷ 49 ∷ 10
+    ∷ 49 ∷ 48 ∷ 32 ∷ 50 ∷ 10
+    ∷ 48 ∷ 10
+    ∷ 51 ∷ 55 ∷ 10
+    ∷ 101 ∷ 110 ∷ 100 ∷ 32 ∷ 51 ∷ 10
+    ∷ []
+
+-- `refused 9 16`
+pub refuses : printed damaged ≡ refusedLine 9 16
+unfolding printed reading.reading reading.accepted reading.delaysOf faults.readFaults faults.lateFaults faults.textFaults faults.linesFaults faults.lineFaults faults.ownFaults faults.titleFaults faults.pairFaults faults.rowFaults faults.lastFaults faults.placedAt faults.firstPart faults.secondPart faults.isPair faults.linkOf faults.isLast faults.countPart faults.rowsOf faults.endOf lines.nextLine lines.begin lines.lineFrom lines.endedFrom bytes.seek bytes.same bytes.begins decimal.isOther decimal.allDigits decimal.leadingZero decimal.isDecimal decimal.valueFrom first outside andThen linkFaults least oneMore refusedLine
+refuses = refl
