@@ -1,0 +1,14 @@
+-- Laws that belong to no one function.
+pub mod NoValue
+pub mod Numbers
+pub mod Steps
+pub mod Judgment
+pub mod Closing
+pub mod Writing
+pub mod Accepting
+pub mod Encoding
+pub mod RoundTrip
+pub mod OneFile
+pub mod Damage
+pub mod Promises
+pub mod Worked

@@ -1,0 +1,161 @@
+-- What the judgment refuses is the answer; else tag, header and rows are put one after the other, and copied where there is room.
+use mathlib.Core.Path.{_≡_, refl, sym, _∙_}
+use mathlib.Core.List.{List, []}
+use Prim.Native.Nat.{ℕ, _≤_, _<_}
+use native.Mathlib.Omega.{arith}
+use lib.ListN.{length}
+use lib.Seq.{length-take-le}
+use Rattle.link.specs.declared.Judged.the-variants.{Fine}
+use Rattle.planfile.specs.Format.{planBytes, Put}
+use Rattle.planfile.specs.Reading.{judgment}
+use Rattle.planfile.specs.Answer.{writtenSaid}
+use Rattle.planfile.proofs.Judgment.{judged-clear}
+use Rattle.planfile.proofs.Writing.{length-header, length-rows, rows-fit, write-fault, write-short, write-done, plan-put}
+use borrow.Author.Needs.{needs}
+use Rattle.planfile.proofs.write_plan.Statement.{statement}
+use Rattle.planfile.proofs.write_plan.Tie as tie
+
+abbrev start : tie.After-put-rows → tie.Start
+start c = c .before .before .before .before .before .before .before .before .before .before .before .before .before .before .before
+
+abbrev planOf : tie.After-put-rows → List ℕ
+planOf c = planBytes (start c .args .link) (start c .args .delays .now) (start c .args .offsets .now)
+
+-- what the call that puts the rows leaves
+put : (c : tie.After-put-rows) → Put [] 0 (planOf c) (c .put-rows .last .1 .1 .0) (c .put-rows .result)
+put c =
+    let h = c .before .before .before in
+    plan-put _ _ _ _ _ (h .put-header .last .1 .1 .0) (c .put-rows .last .1 .1 .0) (h .put-header .result) (c .put-rows .result)
+    (h .before .before .before .copy-out .ensures) (h .put-header .ensures) (c .put-rows .ensures)
+
+long : (c : tie.After-put-rows) → c .put-rows .result ≡ length (planOf c)
+long c = omega (arith, put c .0)
+
+fits : (c : tie.After-put-rows) → c .put-rows .result ≤ length (c .put-rows .last .1 .1 .0)
+fits c =
+    let h = c .before .before .before in
+    let w = h .before .before .before in
+    let t = w .before .before .before in
+    let u = start c .args in
+    let g = judged-clear _ _ _ (sym (t .before .before .judge .ensures) ∙ t .enum-told .given .1) .0 in
+    omega (
+      arith,
+      c .put-rows .ensures .0,
+      c .put-rows .kept .1 .1 .0,
+      h .put-header .ensures .0,
+      h .put-header .kept .1 .1 .0,
+      w .copy-out .kept .1 .0,
+      length-header (u .link) (length (u .delays .now)),
+      length-rows (u .delays .now) (u .offsets .now),
+      g .table .rows-high,
+    )
+
+fine : (c : tie.After-put-rows) → judgment (start c .args .link) (start c .args .delays .now) (start c .args .offsets .now) ≡ Fine
+fine c =
+    let t = c .before .before .before .before .before .before .before .before .before in
+    sym (t .before .before .judge .ensures) ∙ t .enum-told .given .1
+
+judge-requires : tie.Need-judge-requires
+judge-requires c κs = search needs
+
+enum-known-number : tie.Need-enum-known-number
+enum-known-number c = search needs
+
+enum-told : tie.Need-enum-told
+enum-told c = search needs
+
+slice-aggregate-copy-out : tie.Need-slice-aggregate-copy-out
+slice-aggregate-copy-out c = search needs
+
+slice-aggregate-copy-out-2 : tie.Need-slice-aggregate-copy-out-2
+slice-aggregate-copy-out-2 c = search needs
+
+copy-out-requires : tie.Need-copy-out-requires
+copy-out-requires c κs = search needs
+
+slice-aggregate-put-header : tie.Need-slice-aggregate-put-header
+slice-aggregate-put-header c = search needs
+
+put-header-requires : tie.Need-put-header-requires
+put-header-requires c κs =
+    let t = c .before .before .before .before .before in
+    let g = judged-clear _ _ _ (sym (t .before .before .judge .ensures) ∙ t .enum-told .given .1) .0 in (
+      omega (arith, c .before .before .copy-out .kept .1 .0),
+      g .table .period-high,
+      omega (arith, g .table .span-high, g .table .period-high),
+      g .table .rows-high,
+    )
+
+slice-aggregate-put-rows : tie.Need-slice-aggregate-put-rows
+slice-aggregate-put-rows c = search needs
+
+put-rows-requires : tie.Need-put-rows-requires
+put-rows-requires c κs =
+    let h = c .before .before in
+    let w = h .before .before .before in
+    let t = w .before .before .before in
+    let u = t .before .before .before .before .before .before .args in
+    let g = judged-clear _ _ _ (sym (t .before .before .judge .ensures) ∙ t .enum-told .given .1) .0 in (
+      rows-fit _ _ _ g,
+      omega (
+        arith,
+        h .put-header .ensures .0,
+        h .put-header .kept .1 .1 .0,
+        w .copy-out .kept .1 .0,
+        length-header (u .link) (length (u .delays .now)),
+      ),
+    )
+
+returns : tie.Need-returns
+unfolding writtenSaid
+returns c =
+    let p = c .before .before in
+    let short : length (start p .args .buffer .now) < length (planOf p) = omega (arith, long p) in
+    rw (write-short _ _ _ _ (fine p) short) (refl, refl)
+
+array-share-prefix-file : tie.Need-array-share-prefix-file
+array-share-prefix-file c = fits (c .before .before)
+
+slice-aggregate-copy-out-3 : tie.Need-slice-aggregate-copy-out-3
+slice-aggregate-copy-out-3 c = sym (length-take-le _ _ (fits (c .before .before .before)))
+
+copy-out-requires-2 : tie.Need-copy-out-requires-2
+copy-out-requires-2 c κs =
+    let p = c .before .before .before .before in
+    omega (arith, length-take-le (p .put-rows .result) (p .put-rows .last .1 .1 .0) (fits p), c .before .before .if1 .left)
+
+returns-2 : tie.Need-returns-2
+unfolding writtenSaid
+returns-2 c = rw (write-fault _ _ _ _ _ _ (sym (c .before .before .before .judge .ensures) ∙ c .before .number .given .1)) (refl, refl)
+
+same-length : tie.Need-same-length
+same-length c = search needs
+
+returns-3 : tie.Need-returns-3
+unfolding writtenSaid
+returns-3 c =
+    let p = c .before .before .before .before .before .before .before in
+    let room : length (planOf p) ≤ length (start p .args .buffer .now) = omega (arith, long p) in
+    rw (write-done _ _ _ _ (fine p) room, long p) (refl, rw (put p .1) at (c .before .before .copy-out2 .ensures))
+
+pub write-plan-spec : {M : Type 1} → statement M
+write-plan-spec =
+    tie.close
+    (tie.spec
+    judge-requires
+    enum-known-number
+    enum-told
+    slice-aggregate-copy-out
+    slice-aggregate-copy-out-2
+    copy-out-requires
+    slice-aggregate-put-header
+    put-header-requires
+    slice-aggregate-put-rows
+    put-rows-requires
+    returns
+    array-share-prefix-file
+    slice-aggregate-copy-out-3
+    copy-out-requires-2
+    returns-2
+    same-length
+    returns-3)

@@ -1,0 +1,135 @@
+-- What the reader and the writer answer, and what they leave in lent memory.
+use mathlib.Core.Path.{_≡_}
+use mathlib.Core.Bool.{cond, _||_}
+use mathlib.Core.List.{List, _++_}
+use Prim.Native.Nat.{ℕ}
+use lib.Dec.{ltb}
+use lib.ListN.{length, drop, take}
+use Rattle.link.specs.Limits.{badLength}
+use Rattle.link.specs.declared.Link.{Link}
+use Rattle.link.specs.declared.Judged.{Judged}
+use Rattle.link.specs.declared.Judged.the-variants.{Fine, Fault}
+use Rattle.planfile.specs.Format.{planBytes}
+use Rattle.planfile.specs.Reading.{Step, got, stopped, Head, Row, Rows, Meaning, plan, refused, closing, meaning, judgment}
+use Rattle.planfile.specs.declared.Taken.{Taken}
+use Rattle.planfile.specs.declared.Taken.the-variants.{Value as TakenValue, Refused as TakenRefused}
+use Rattle.planfile.specs.declared.Header.{Header}
+use Rattle.planfile.specs.declared.Header.the-variants.{Read as HeaderRead, Refused as HeaderRefused}
+use Rattle.planfile.specs.declared.RowRead.{RowRead}
+use Rattle.planfile.specs.declared.RowRead.the-variants.{Row as OneRow, Refused as RowRefused}
+use Rattle.planfile.specs.declared.RowsRead.{RowsRead}
+use Rattle.planfile.specs.declared.RowsRead.the-variants.{End, Refused as RowsRefused}
+use Rattle.planfile.specs.declared.PlanRead.{PlanRead}
+use Rattle.planfile.specs.declared.PlanRead.the-variants.{Plan, Refused as ReadRefused}
+use Rattle.planfile.specs.declared.PlanWritten.{PlanWritten}
+use Rattle.planfile.specs.declared.PlanWritten.the-variants.{File, Refused as WriteRefused}
+
+-- the inner answers as steps
+unfoldable pub taken : Taken → Step ℕ
+taken (TakenValue v next) = got v next
+taken (TakenRefused n p) = stopped n p
+
+unfoldable pub headed : Header → Step Head
+headed (HeaderRead k n next) = got (record { link = k; rows = n }) next
+headed (HeaderRefused n p) = stopped n p
+
+unfoldable pub rowed : RowRead → Step Row
+rowed (OneRow d o next) = got (record { delay = d; offset = o }) next
+rowed (RowRefused n p) = stopped n p
+
+-- all rows, with the two lists that they were put into
+unfoldable pub rowsed : RowsRead → List ℕ → List ℕ → Step Rows
+rowsed (End next) ds os = got (record { delays = ds; offsets = os }) next
+rowsed (RowsRefused n p) ds os = stopped n p
+
+pub data Verdict : Type 0 where
+  done refusal : Verdict
+
+-- the paper's form of the reader's answer; "Fields of an answer that don't apply are 0"
+pub record ReadSaid : Type 0 where
+  pub verdict : Verdict
+  pub number : ℕ
+  pub place : ℕ
+  pub period : ℕ
+  pub size : ℕ
+  pub rows : ℕ
+
+abbrev pub readsPlan : Link → ℕ → ReadSaid
+readsPlan k n = record { verdict = done; number = 0; place = 0; period = k .period; size = k .size; rows = n }
+
+abbrev pub refusesRead : ℕ → ℕ → ReadSaid
+refusesRead n p = record { verdict = refusal; number = n; place = p; period = 0; size = 0; rows = 0 }
+
+unfoldable pub readSaid : PlanRead → ReadSaid
+readSaid (Plan k n) = readsPlan k n
+readSaid (ReadRefused n p) = refusesRead n p
+
+-- the reader's answer, and the two lent lists as it leaves them
+pub record ReadGives : Type 0 where
+  pub says : ReadSaid
+  pub delays : List ℕ
+  pub offsets : List ℕ
+
+-- "A lent buffer longer than needed keeps its tail."
+abbrev pub onFront : List ℕ → List ℕ → List ℕ
+onFront xs old = xs ++ drop (length xs) old
+
+-- "Every refusal .. leaves all output buffers with the bytes and numbers they had."
+abbrev pub refuses : ℕ → ℕ → List ℕ → List ℕ → ReadGives
+refuses n p oldD oldO = record { says = refusesRead n p; delays = oldD; offsets = oldO }
+
+-- "then 11": either list shorter than the rows
+unfoldable pub delivered : Meaning → List ℕ → List ℕ → ReadGives
+delivered (plan k ds os) oldD oldO =
+    cond (ltb (length oldD) (length ds) || ltb (length oldO) (length os))
+    (refuses badLength 0 oldD oldO)
+    (record { says = readsPlan k (length ds); delays = onFront ds oldD; offsets = onFront os oldO })
+delivered (refused n p) oldD oldO = refuses n p oldD oldO
+
+-- what the reader gives once it has read the last number
+abbrev pub closes : List ℕ → ℕ → Link → List ℕ → List ℕ → List ℕ → List ℕ → ReadGives
+closes bs end k ds os oldD oldO = delivered (closing bs k ds os end) oldD oldO
+
+unfoldable pub readGives : List ℕ → List ℕ → List ℕ → ReadGives
+readGives bs oldD oldO = delivered (meaning bs) oldD oldO
+
+-- a file that was read as a plan is the bytes of that plan, which stands in the fronts of ds and os
+abbrev pub IsFileOf : PlanRead → List ℕ → List ℕ → List ℕ → Type 0
+IsFileOf (Plan k n) bs ds os = bs ≡ planBytes k (take n ds) (take n os)
+IsFileOf (ReadRefused n p) bs ds os = Unit
+
+-- the paper's form of the writer's answer
+pub record WrittenSaid : Type 0 where
+  pub verdict : Verdict
+  pub number : ℕ
+  pub place : ℕ
+  pub bytes : ℕ
+
+abbrev pub writes : ℕ → WrittenSaid
+writes n = record { verdict = done; number = 0; place = 0; bytes = n }
+
+abbrev pub refusesWrite : ℕ → ℕ → WrittenSaid
+refusesWrite n p = record { verdict = refusal; number = n; place = p; bytes = 0 }
+
+unfoldable pub writtenSaid : PlanWritten → WrittenSaid
+writtenSaid (File n) = writes n
+writtenSaid (WriteRefused n p) = refusesWrite n p
+
+pub record WriteGives : Type 0 where
+  pub says : WrittenSaid
+  pub leaves : List ℕ
+
+-- "last 11 if the output buffer is too short"
+unfoldable pub stored : List ℕ → List ℕ → WriteGives
+stored bs old =
+    cond (ltb (length old) (length bs))
+    (record { says = refusesWrite badLength 0; leaves = old })
+    (record { says = writes (length bs); leaves = onFront bs old })
+
+abbrev pub unlessFault : Judged → WriteGives → List ℕ → WriteGives
+unlessFault Fine w old = w
+unlessFault (Fault n p) w old = record { says = refusesWrite n p; leaves = old }
+
+-- "The writer writes clear plans only; it judges 5, 6, 8, 7, then 11 .., 17, 18, and last 11"
+unfoldable pub writeGives : Link → List ℕ → List ℕ → List ℕ → WriteGives
+writeGives k ds os old = unlessFault (judgment k ds os) (stored (planBytes k ds os) old) old

@@ -1,0 +1,43 @@
+-- The bytes of a plan.
+use mathlib.Core.List.{List, [], _∷_, _++_}
+use mathlib.Core.Path.{_≡_}
+use Prim.Native.Nat.{ℕ, _+_, _*_, _≤_, _<_}
+use lib.ListN.{length, getD, take}
+use Rattle.link.specs.Limits.{maxRows}
+use Rattle.link.specs.declared.Link.{Link}
+use Rattle.planfile.specs.Number.{limit, moreGroups, numberBytes}
+
+-- "Bytes 50 4D 41 01 (hex)"
+abbrev pub tag : List ℕ
+tag = 0x50 ∷ 0x4D ∷ 0x41 ∷ 0x01 ∷ []
+
+-- "for each row delay and offset"
+unfoldable pub rowsBytes : List ℕ → List ℕ → List ℕ
+rowsBytes [] os = []
+rowsBytes (d ∷ ds) [] = []
+rowsBytes (d ∷ ds) (o ∷ os) = numberBytes d ++ (numberBytes o ++ rowsBytes ds os)
+
+-- "then the numbers period, size, n"
+unfoldable pub headerBytes : Link → ℕ → List ℕ
+headerBytes k n = numberBytes (k .period) ++ (numberBytes (k .size) ++ numberBytes n)
+
+unfoldable pub planBytes : Link → List ℕ → List ℕ → List ℕ
+planBytes k ds os = tag ++ (headerBytes k (length ds) ++ rowsBytes ds os)
+
+-- "No number has more than four bytes": the three of the header, and two of each row
+abbrev pub headerRoom : ℕ
+headerRoom = 3 * 4
+
+abbrev pub rowsRoom : ℕ
+rowsRoom = 8 * maxRows
+
+-- bytes were put at a place: next is the place after them, and up to there the file is as before, then those bytes
+abbrev pub Put : List ℕ → ℕ → List ℕ → List ℕ → ℕ → Type 0
+Put before at bytes after next = (next ≡ at + length bytes) × (take next after ≡ take at before ++ bytes)
+
+-- rows whose numbers have at most four bytes each
+pub record RowsFit (ds os : List ℕ) : Type 0 where
+  pub rows-high : length ds ≤ maxRows
+  pub as-many : length os ≡ length ds
+  pub delays : (i : ℕ) → i < length ds → getD ds i 0 < limit moreGroups
+  pub offsets : (i : ℕ) → i < length os → getD os i 0 < limit moreGroups

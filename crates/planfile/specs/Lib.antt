@@ -1,0 +1,7 @@
+-- The definitions that the contracts and promises of `planfile` cite.
+pub mod Bytes
+pub mod Causes
+pub mod Number
+pub mod Format
+pub mod Reading
+pub mod Answer

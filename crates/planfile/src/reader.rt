@@ -1,0 +1,202 @@
+// The reader's steps, over a slice and a place in it.
+use crate::Header;
+use crate::Number;
+use crate::PlanRead;
+use crate::RowRead;
+use crate::RowsRead;
+use crate::Taken;
+use crate::causes::LEFT_OVER;
+use crate::groups;
+use crate::writer;
+use link::Judged;
+use link::Link;
+use link::limits::BAD_DELAY;
+use link::limits::BAD_LENGTH;
+use link::limits::BAD_OFFSET;
+use link::limits::BAD_PERIOD;
+use link::limits::BAD_ROWS;
+use link::limits::BAD_SIZE;
+use link::limits::MAX_DELAY;
+use link::limits::MAX_PERIOD;
+use link::limits::MAX_ROWS;
+ghost use mathlib.Core.Path.{_≡_};
+ghost use mathlib.Core.List.{[]};
+ghost use Prim.Native.Nat.{_≤_, _<_};
+ghost use lib.ListN.{length, take};
+ghost use Rattle.planfile.specs.Reading.{begins as beginsWith, number as numberOf, header, row, rows as rowsOf};
+ghost use Rattle.planfile.specs.Answer.{taken, headed, rowed, rowsed, readSaid, closes};
+
+// Whether the bytes begin with the tag.
+pub fn begins(tag: &[u8], bytes: &[u8]) -> bool
+    ensures { λ r. ⌜ r ≡ beginsWith (now (tag .entry)) (now (bytes .entry)) ⌝ }
+{
+    let mut i = 0;
+    while i < tag.len() {
+        if i >= bytes.len() {
+            return false;
+        }
+        if bytes[i] != tag[i] {
+            return false;
+        }
+        i += 1;
+    }
+    true
+}
+
+// The number at a place: its form, then its range.
+fn take_number(bytes: &[u8], at: usize, low: u32, high: u32, fault: u32) -> Taken
+    ensures { λ r. ⌜ taken r ≡ numberOf (now (bytes .entry)) at low high fault ⌝ }
+{
+    let got = groups::number_at(bytes, at);
+    let Number::Value { value, length } = got else {
+        return Taken::Refused {
+            number: groups::form_fault(got),
+            place: at,
+        };
+    };
+    if value < low {
+        return Taken::Refused {
+            number: fault,
+            place: at,
+        };
+    }
+    if value > high {
+        return Taken::Refused {
+            number: fault,
+            place: at,
+        };
+    }
+    Taken::Value {
+        value,
+        next: at + length,
+    }
+}
+
+// Period, size and the number of rows.
+pub fn read_header(bytes: &[u8], at: usize) -> Header
+    ensures { λ r. ⌜ headed r ≡ header (now (bytes .entry)) at ⌝ }
+{
+    match take_number(bytes, at, 1, MAX_PERIOD, BAD_PERIOD) {
+        Taken::Refused { number, place } => Header::Refused { number, place },
+        Taken::Value {
+            value: period,
+            next: at_size,
+        } => match take_number(bytes, at_size, 1, period, BAD_SIZE) {
+            Taken::Refused { number, place } => Header::Refused { number, place },
+            Taken::Value {
+                value: size,
+                next: at_rows,
+            } => match take_number(bytes, at_rows, 1, MAX_ROWS as u32, BAD_ROWS) {
+                Taken::Refused { number, place } => Header::Refused { number, place },
+                Taken::Value { value: rows, next } => Header::Read {
+                    link: Link { period, size },
+                    rows: rows as usize,
+                    next,
+                },
+            },
+        },
+    }
+}
+
+// Delay and offset of one row.
+fn read_row(bytes: &[u8], at: usize, period: u32) -> RowRead
+    requires { ⌜ 0 < period ⌝ }
+    ensures { λ r. ⌜ rowed r ≡ row (now (bytes .entry)) period at ⌝ }
+{
+    match take_number(bytes, at, 0, MAX_DELAY, BAD_DELAY) {
+        Taken::Refused { number, place } => RowRead::Refused { number, place },
+        Taken::Value {
+            value: delay,
+            next: at_offset,
+        } => match take_number(bytes, at_offset, 0, period - 1, BAD_OFFSET) {
+            Taken::Refused { number, place } => RowRead::Refused { number, place },
+            Taken::Value {
+                value: offset,
+                next,
+            } => RowRead::Row {
+                delay,
+                offset,
+                next,
+            },
+        },
+    }
+}
+
+// All rows, into the front of two lists.
+pub fn read_rows(
+    bytes: &[u8],
+    from: usize,
+    period: u32,
+    rows: usize,
+    delays: &mut [u32],
+    offsets: &mut [u32],
+) -> RowsRead
+    requires { ⌜ (0 < period) × (rows ≤ length (now delays)) × (rows ≤ length (now offsets)) ⌝ }
+    ensures { λ r. ⌜ rowsed r (take rows (now (delays .exit))) (take rows (now (offsets .exit))) ≡ rowsOf (now (bytes .entry)) period rows [] [] from ⌝ }
+{
+    let mut at = from;
+    let mut j: usize = 0;
+    while j < rows {
+        match read_row(bytes, at, period) {
+            RowRead::Refused { number, place } => {
+                return RowsRead::Refused { number, place };
+            }
+            RowRead::Row {
+                delay,
+                offset,
+                next,
+            } => {
+                delays[j] = delay;
+                offsets[j] = offset;
+                at = next;
+                j += 1;
+            }
+        }
+    }
+    RowsRead::End { next: at }
+}
+
+// After the last number: 16 for bytes left over, 18, 11; then the rows are copied out.
+pub fn close(
+    bytes: &[u8],
+    end: usize,
+    link: Link,
+    ds: &[u32],
+    os: &[u32],
+    delays: &mut [u32],
+    offsets: &mut [u32],
+) -> PlanRead
+    ensures { λ r. ⌜ readSaid r ≡ closes (now (bytes .entry)) end link (now (ds .entry)) (now (os .entry)) (now (delays .entry)) (now (offsets .entry)) .says ⌝ }
+    ensures { λ r. ⌜ now (delays .exit) ≡ closes (now (bytes .entry)) end link (now (ds .entry)) (now (os .entry)) (now (delays .entry)) (now (offsets .entry)) .delays ⌝ }
+    ensures { λ r. ⌜ now (offsets .exit) ≡ closes (now (bytes .entry)) end link (now (ds .entry)) (now (os .entry)) (now (delays .entry)) (now (offsets .entry)) .offsets ⌝ }
+{
+    if end < bytes.len() {
+        return PlanRead::Refused {
+            number: LEFT_OVER,
+            place: end,
+        };
+    }
+    match writer::judge(link, ds, os) {
+        Judged::Fault { number, place } => PlanRead::Refused { number, place },
+        Judged::Fine => {
+            if delays.len() < ds.len() {
+                return PlanRead::Refused {
+                    number: BAD_LENGTH,
+                    place: 0,
+                };
+            }
+            if offsets.len() < os.len() {
+                return PlanRead::Refused {
+                    number: BAD_LENGTH,
+                    place: 0,
+                };
+            }
+            link::copy_out(ds, delays);
+            link::copy_out(os, offsets);
+            PlanRead::Plan {
+                link,
+                rows: ds.len(),
+            }
+        }
+    }
+}

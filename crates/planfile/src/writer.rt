@@ -1,0 +1,73 @@
+// The writer's steps.
+use crate::groups;
+use checker::Checked;
+use link::Judged;
+use link::Link;
+use link::limits::MAX_ROWS;
+use link::limits::NOT_CLEAR;
+ghost use mathlib.Core.Path.{_≡_};
+ghost use mathlib.Core.List.{_++_};
+ghost use Prim.Native.Nat.{_+_, _≤_};
+ghost use lib.ListN.{length, drop};
+ghost use Rattle.link.specs.Limits.{maxPeriod, maxRows};
+ghost use Rattle.planfile.specs.Format.{headerBytes, rowsBytes, headerRoom, rowsRoom, Put, RowsFit};
+ghost use Rattle.planfile.specs.Reading.{judgment};
+
+// Four bytes for the tag, and at most four for each of the 3 + 2 * 64 numbers.
+pub const ROOM: usize = 4 * (1 + 3 + 2 * MAX_ROWS);
+
+// A plan to write or to read: what the checker refuses, and 18 where two rows meet.
+pub fn judge(link: Link, delays: &[u32], offsets: &[u32]) -> Judged
+    ensures { λ r. ⌜ r ≡ judgment link (now (delays .entry)) (now (offsets .entry)) ⌝ }
+{
+    match checker::check(link, delays, offsets) {
+        Checked::Refused { number, place } => Judged::Fault { number, place },
+        Checked::Collision {
+            earlier: _,
+            later,
+            crossing: _,
+        } => Judged::Fault {
+            number: NOT_CLEAR,
+            place: later,
+        },
+        Checked::Clear => Judged::Fine,
+    }
+}
+
+// The front of a buffer is replaced.
+pub fn copy_out(from: &[u8], to: &mut [u8])
+    requires { ⌜ length (now from) ≤ length (now to) ⌝ }
+    ensures { λ _. ⌜ now (to .exit) ≡ now (from .entry) ++ drop (length (now (from .entry))) (now (to .entry)) ⌝ }
+{
+    let mut i = 0;
+    while i < from.len() {
+        to[i] = from[i];
+        i += 1;
+    }
+}
+
+// Writes period, size and the number of rows.
+pub fn put_header(link: Link, rows: usize, file: &mut [u8], at: usize) -> usize
+    requires { ⌜ (at + headerRoom ≤ length (now file)) × (link .period ≤ maxPeriod) × (link .size ≤ maxPeriod) × (rows ≤ maxRows) ⌝ }
+    ensures { λ r. ⌜ Put (now (file .entry)) at (headerBytes link rows) (now (file .exit)) r ⌝ }
+{
+    let at_size = groups::put_number(file, at, link.period);
+    let at_rows = groups::put_number(file, at_size, link.size);
+    groups::put_number(file, at_rows, rows as u32)
+}
+
+// Writes delay and offset of each row.
+pub fn put_rows(delays: &[u32], offsets: &[u32], file: &mut [u8], from: usize) -> usize
+    requires { ⌜ RowsFit (now delays) (now offsets) ⌝ }
+    requires { ⌜ from + rowsRoom ≤ length (now file) ⌝ }
+    ensures { λ r. ⌜ Put (now (file .entry)) from (rowsBytes (now (delays .entry)) (now (offsets .entry))) (now (file .exit)) r ⌝ }
+{
+    let mut at = from;
+    let mut j = 0;
+    while j < delays.len() {
+        let at_offset = groups::put_number(file, at, delays[j]);
+        at = groups::put_number(file, at_offset, offsets[j]);
+        j += 1;
+    }
+    at
+}
