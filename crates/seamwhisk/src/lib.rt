@@ -5,6 +5,8 @@ use checker::Checked;
 use link::Link;
 use link::limits::BUDGET_SPENT;
 use link::limits::NO_BUILD;
+use planfile::PlanRead;
+use planfile::PlanWritten;
 use quick::Planned;
 use report::Reported;
 use search::Answer;
@@ -12,11 +14,12 @@ use text::Read;
 ghost use mathlib.Core.Path.{_≡_};
 ghost use Rattle.checker.specs.Answer.{answer as Answer·checked};
 ghost use Rattle.quick.specs.Answer.{firstFit, metaOffset};
+ghost use Rattle.planfile.specs.Answer.{readGives, writeGives};
 ghost use Rattle.report.specs.Answer.{answer as Answer·reported};
 ghost use Rattle.search.specs.Answer.{exactly};
 ghost use Rattle.search.specs.Ceilings.{ceilingUpTo};
 ghost use Rattle.text.specs.Reading.{reading};
-ghost use Rattle.seamwhisk.specs.Numbers.{linkOf, left, checkedAs, plannedAs, searchedAs, readAs, reportedAs};
+ghost use Rattle.seamwhisk.specs.Numbers.{linkOf, left, leftTwo, checkedAs, plannedAs, searchedAs, readAs, writtenAs, fileAs, reportedAs};
 
 #[no_mangle]
 pub extern "C" fn seamwhisk_check(
@@ -108,6 +111,44 @@ pub extern "C" fn seamwhisk_read_table(text: &[u8], delays: &mut [u32], answer: 
             fill::five(answer, 0, 0, period as u64, size as u64, rows as u64)
         }
         Read::Refused { number, place } => {
+            fill::five(answer, number as u64, place as u64, 0, 0, 0)
+        }
+    }
+}
+
+#[no_mangle]
+pub extern "C" fn seamwhisk_write_plan(
+    period: u32,
+    size: u32,
+    delays: &[u32],
+    offsets: &[u32],
+    file: &mut [u8],
+    answer: &mut [u64; 3],
+)
+    ensures { λ _. ⌜ left (now (answer .exit)) (now (file .exit)) ≡ writtenAs (writeGives (linkOf period size) (now (delays .entry)) (now (offsets .entry)) (now (file .entry))) ⌝ }
+{
+    match planfile::write_plan(Link { period, size }, delays, offsets, file) {
+        PlanWritten::File { length } => fill::three(answer, 0, 0, length as u64),
+        PlanWritten::Refused { number, place } => {
+            fill::three(answer, number as u64, place as u64, 0)
+        }
+    }
+}
+
+#[no_mangle]
+pub extern "C" fn seamwhisk_read_plan(
+    file: &[u8],
+    delays: &mut [u32],
+    offsets: &mut [u32],
+    answer: &mut [u64; 5],
+)
+    ensures { λ _. ⌜ leftTwo (now (answer .exit)) (now (delays .exit)) (now (offsets .exit)) ≡ fileAs (readGives (now (file .entry)) (now (delays .entry)) (now (offsets .entry))) ⌝ }
+{
+    match planfile::read_plan(file, delays, offsets) {
+        PlanRead::Plan { link, rows } => {
+            fill::five(answer, 0, 0, link.period as u64, link.size as u64, rows as u64)
+        }
+        PlanRead::Refused { number, place } => {
             fill::five(answer, number as u64, place as u64, 0, 0, 0)
         }
     }
