@@ -89,6 +89,8 @@ fn case(line: &[u8]) {
         2 | 3 => table_and_room(line, at, k),
         4 => table_and_budget(line, at),
         5 => text_and_room(line, at),
+        6 => plan_and_room(line, at),
+        7 => file_and_rooms(line, at),
         9 => ceiling(line, at),
         11 => input(line, at),
         _ => {}
@@ -219,4 +221,55 @@ fn input(line: &[u8], at: usize) {
     let k = console::run(&bytes[..n], &mut out);
     show::one(k as u64);
     show::bytes(&out[..k]);
+}
+
+// A plan and a lent buffer for its file.
+fn plan_and_room(line: &[u8], at: usize) {
+    let period = cases::number(line, at);
+    let size = cases::number(line, period.next);
+    let mut ds = [0u32; 132];
+    let delays = cases::list(line, size.next, &mut ds);
+    let mut os = [0u32; 132];
+    let offsets = cases::list(line, delays.next, &mut os);
+    let mut bytes = [0u8; 1100];
+    let file = cases::lent_bytes(line, offsets.next, &mut bytes);
+    let n = delays.count;
+    let m = offsets.count;
+    let k = file.count;
+    write_plan(
+        cases::word(period),
+        cases::word(size),
+        &ds[..n],
+        &os[..m],
+        &mut bytes[..k],
+    );
+}
+
+fn write_plan(period: u32, size: u32, delays: &[u32], offsets: &[u32], file: &mut [u8]) {
+    let mut answer = [0u64; 3];
+    seamwhisk::seamwhisk_write_plan(period, size, delays, offsets, file, &mut answer);
+    show::three(&answer);
+    show::bytes(file);
+}
+
+// A plan file and two lent lists, for its delays and its offsets.
+fn file_and_rooms(line: &[u8], at: usize) {
+    let mut bytes = [0u8; 1100];
+    let file = cases::bytes(line, at, &mut bytes);
+    let mut ds = [0u32; 132];
+    let delays = cases::lent(line, file.next, &mut ds);
+    let mut os = [0u32; 132];
+    let offsets = cases::lent(line, delays.next, &mut os);
+    let n = file.count;
+    let m = delays.count;
+    let k = offsets.count;
+    read_plan(&bytes[..n], &mut ds[..m], &mut os[..k]);
+}
+
+fn read_plan(file: &[u8], delays: &mut [u32], offsets: &mut [u32]) {
+    let mut answer = [0u64; 5];
+    seamwhisk::seamwhisk_read_plan(file, delays, offsets, &mut answer);
+    show::five(&answer);
+    show::list(delays);
+    show::list(offsets);
 }

@@ -146,7 +146,14 @@ pub extern "C" fn seamwhisk_read_plan(
 {
     match planfile::read_plan(file, delays, offsets) {
         PlanRead::Plan { link, rows } => {
-            fill::five(answer, 0, 0, link.period as u64, link.size as u64, rows as u64)
+            fill::five(
+                answer,
+                0,
+                0,
+                link.period as u64,
+                link.size as u64,
+                rows as u64,
+            )
         }
         PlanRead::Refused { number, place } => {
             fill::five(answer, number as u64, place as u64, 0, 0, 0)

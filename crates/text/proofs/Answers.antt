@@ -1,9 +1,7 @@
 -- How the code shows what the reader answers. Assumes nothing.
-use mathlib.Core.Path.{_≡_, refl, sym, ap, _∙_}
-use mathlib.Core.List.{List, [], _++_}
+use mathlib.Core.Path.{_≡_, refl, sym}
+use mathlib.Core.List.{List, _++_}
 use Prim.Native.Nat.{ℕ, _≤_, _<_}
-use native.Mathlib.Omega.{arith}
-use lib.Dec.{ltb}
 use lib.ListN.{length, drop}
 use borrow.Author.Tests.{lt-ltb, le-ltb}
 use Rattle.link.specs.Limits.{maxText, longText, bytesAfter, badLength}
@@ -12,15 +10,13 @@ use Rattle.link.specs.declared.Link.{Link}
 use Rattle.link.specs.declared.Judged.{Judged}
 use Rattle.link.specs.declared.Judged.the-variants.{Fine, Fault}
 use Rattle.link.proofs.Faults.{hit, pass, fine, front-hit, front-pass}
-use Rattle.text.specs.declared.Text.the-variants.{Whole, Broken}
+use Rattle.text.specs.declared.Text.the-variants.{Whole, Refused as Broken}
 use Rattle.text.specs.declared.Read.{Read}
 use Rattle.text.specs.declared.Read.the-variants.{Table, Refused}
 use Rattle.text.specs.Lines.{line}
 use Rattle.text.specs.Faults.{linkOf, rowsOf, endOf, textFaults, lateFaults, readFaults}
-use Rattle.text.specs.Reading.{said, delaysOf, Outcome, unless, accepted, reading, wholeIf, judging}
-
-never : {A : Type 0} → _≡_ {A = ℕ} 0 1 → A
-never e = absurd (omega arith)
+use Rattle.text.specs.Reading.{said, delaysOf, accepted, reading, wholeIf, judging}
+use Rattle.text.proofs.ForLink.{never}
 
 broken-if : (j : Judged) (r m n p : ℕ) → Broken n p ≡ wholeIf j r m → j ≡ Fault n p
 broken-if Fine r m n p e = never cc
@@ -72,16 +68,21 @@ module _ (x : List ℕ) where
         unfolding lateFaults
         short l m =
             let f = whole-told rows end w in
-            refused badLength 0 (late _ (pass _ _ bytesAfter _ (le-ltb _ _ (rw (f .2) at l)) (hit _ _ badLength 0 (lt-ltb _ _ (rw (f .1) at m)))))
+            refused badLength 0 (late _ (pass _ _ bytesAfter _ (le-ltb _ _ (rw (f .2) at l))
+            (hit _ _ badLength 0 (lt-ltb _ _ (rw (f .1) at m)))))
 
-        pub good : length x ≤ end → rows ≤ length old → (r : Read) (new : List ℕ) → said r ≡ accepted x old .says → new ≡ accepted x old .leaves → Meets x old r new
+        pub good : length x ≤ end → rows ≤ length old → (r : Read) (new : List ℕ) → said r ≡ accepted x old .says
+            → new ≡ accepted x old .leaves → Meets x old r new
         unfolding reading lateFaults
         good l m r new e g =
             let f = whole-told rows end w in
-            let t = late Fine (pass _ _ bytesAfter _ (le-ltb _ _ (rw (f .2) at l)) (pass _ _ badLength 0 (le-ltb _ _ (rw (f .1) at m)) fine)) in
+            let t = late Fine (pass _ _ bytesAfter _ (le-ltb _ _ (rw (f .2) at l))
+            (pass _ _ badLength 0 (le-ltb _ _ (rw (f .1) at m)) fine)) in
             rw (sym t) (e, g)
 
 -- the answer for a table
-pub taken : (x old : List ℕ) (k : Link) (rows : ℕ) (new : List ℕ) → k ≡ linkOf (line x 1) → rows ≡ rowsOf x → new ≡ delaysOf x rows ++ drop rows old → (said (Table (k .period) (k .size) rows) ≡ accepted x old .says) × (new ≡ accepted x old .leaves)
+pub taken : (x old : List ℕ) (k : Link) (rows : ℕ) (new : List ℕ) → k ≡ linkOf (line x 1) → rows ≡ rowsOf x
+    → new ≡ delaysOf x rows ++ drop rows old → (said (Table (k .period) (k .size) rows) ≡ accepted x old .says)
+    × (new ≡ accepted x old .leaves)
 unfolding said accepted
 taken x old k rows new e r d = rw (← e, ← r) (refl, d)

@@ -1,14 +1,13 @@
 -- What a decimal number is, and the bound on its value. Assumes nothing.
-use mathlib.Core.Path.{_≡_, refl, sym, ap, _∙_}
-use mathlib.Core.Bool.{Bool, true, false, not, _&&_}
+use mathlib.Core.Path.{_≡_, refl, ap, _∙_}
+use mathlib.Core.Bool.{true, false, not, _&&_}
 use mathlib.Core.List.{List, [], _∷_, _++_}
 use Prim.Native.Nat.{ℕ, zero, suc, _+_, _-_, _*_, _≤_, _<_, _^_}
 use native.Mathlib.Omega.{arith}
 use native.Mathlib.Nat.{pow-suc, pow-le-pow-right}
 use lib.ListN.{length, getD, take}
-use lib.Seq.{take-suc, take-length}
-use borrow.Author.Tests.{not-true, not-false}
-use Rattle.link.specs.Least.{some}
+use lib.Seq.{take-suc}
+use borrow.Author.Tests.{not-true}
 use Rattle.link.specs.Refusal.{outside}
 use Rattle.link.proofs.Bools.{and-parts, and-both}
 use Rattle.link.proofs.Minimum.{none-has, some-none}
@@ -69,10 +68,3 @@ pub part-low : (bs : List ℕ) → Decimal bs → (i : ℕ) → i < length bs �
 part-low bs d i l =
     let p : 10 ^ i ≤ 10 ^ 7 = pow-le-pow-right (omega arith) {i = i} {j = 7} (omega (arith, d .short)) in
     omega (arith, value-low bs (d .digits) i (omega arith))
-
-pub value-bound : (bs : List ℕ) → Decimal bs → value bs < 10 ^ 8
-value-bound bs d =
-    let p : 10 ^ length bs ≤ 10 ^ 8 = pow-le-pow-right (omega arith) {i = length bs} {j = 8} (d .short) in
-    let v : value (take (length bs) bs) < 10 ^ length bs = value-low bs (d .digits) (length bs) (omega arith) in
-    let e : value (take (length bs) bs) ≡ value bs = ap value (take-length bs) in
-    omega arith

@@ -1,8 +1,8 @@
 -- Where a byte comes first in a list that is put together, and lists that are compared. Assumes nothing.
 use mathlib.Core.Path.{_≡_, refl, sym, ap, _∙_}
-use mathlib.Core.Bool.{Bool, true, false, not, _&&_}
+use mathlib.Core.Bool.{true, not}
 use mathlib.Core.List.{List, [], _∷_, _++_}
-use Prim.Native.Nat.{ℕ, zero, suc, _+_, _≤_, _<_}
+use Prim.Native.Nat.{ℕ, zero, suc, _+_, _<_}
 use native.Mathlib.Omega.{arith}
 use lib.Dec.{leb, eqb}
 use lib.ListN.{length, getD, take, drop, length-append, take-append-drop, List·getD-append}
@@ -64,4 +64,5 @@ begins-with word l e =
 pub begins-self : (word l : List ℕ) → begins word (word ++ l) ≡ true
 unfolding begins
 begins-self word l =
-    and-both _ _ (le-leb (length word) (length (word ++ l)) (omega (arith, length-append word l))) (rw (take-append-seam word l) (same-self word))
+    and-both _ _ (le-leb (length word) (length (word ++ l)) (omega (arith, length-append word l)))
+    (rw (take-append-seam word l) (same-self word))

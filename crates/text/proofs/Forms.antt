@@ -1,21 +1,19 @@
 -- The form of each line, and its spelling: a line is of its form exactly where it is spelt so. Assumes nothing.
-use mathlib.Core.Path.{_≡_, refl, sym, ap, _∙_}
-use mathlib.Core.Bool.{Bool, true, false, not, _&&_}
-use mathlib.Core.List.{List, [], _∷_, _++_}
-use mathlib.Core.Logic.{⊎-elim}
-use Prim.Native.Nat.{ℕ, zero, suc, _+_, _≤_, _<_, _^_}
+use mathlib.Core.Path.{_≡_, sym, ap, _∙_}
+use mathlib.Core.Bool.{true, false}
+use mathlib.Core.List.{List, _∷_, _++_}
+use Prim.Native.Nat.{ℕ, suc, _+_, _<_, _^_}
 use native.Mathlib.Numerals.{add-one}
 use native.Mathlib.Omega.{arith}
-use lib.Dec.{eqb}
 use lib.ListN.{length, getD, take, drop}
 use lib.Seq.{split-at, take-append-seam, drop-append-add, drop-append-seam}
 use Rattle.link.specs.declared.Link.{Link}
-use Rattle.link.proofs.Bools.{clash, is-false, and-both, and-parts}
-use Rattle.text.specs.Bytes.{newline, space, seek, begins, endWord}
-use Rattle.text.specs.Decimal.{naught, nine, isDecimal, value}
+use Rattle.link.proofs.Bools.{is-false, and-both}
+use Rattle.text.specs.Bytes.{newline, space, seek, endWord}
+use Rattle.text.specs.Decimal.{naught, isDecimal, value}
 use Rattle.text.specs.Faults.{firstPart, secondPart, isPair, linkOf, isLast, countPart}
 use Rattle.text.specs.Writing.{digits, pairLine, lastLine}
-use Rattle.text.proofs.Decimals.{Digits, digit, decimal}
+use Rattle.text.proofs.Decimals.{digit, decimal}
 use Rattle.text.proofs.Spelling.{digits-decimal, digits-value, digits-all, decimal-digits}
 use Rattle.text.proofs.Finding.{Without, without-append, without-each, seek-first, found, begins-with, begins-self}
 use Rattle.text.proofs.LineForms.{pair-parts}
@@ -39,7 +37,8 @@ module _ (k : Link) (hp : k .period < 10 ^ 8) (hs : k .size < 10 ^ 8) where
   unfolding secondPart pairLine
   second-of =
       rw seek-pair
-      (ap (λ (m : ℕ). drop m (pairLine k)) (sym (add-one (length (digits (k .period))))) ∙ drop-append-add (digits (k .period)) (space ∷ digits (k .size)) 1)
+      (ap (λ (m : ℕ). drop m (pairLine k)) (sym (add-one (length (digits (k .period)))))
+      ∙ drop-append-add (digits (k .period)) (space ∷ digits (k .size)) 1)
 
   pub pair-is : isPair (pairLine k) ≡ true
   unfolding isPair
@@ -87,7 +86,9 @@ module _ (n : ℕ) (h : n < 10 ^ 8) where
 
   pub last-free : Without newline (lastLine n)
   unfolding lastLine
-  last-free = without-append newline endWord (digits n) ((λ e. omega arith), ((λ e. omega arith), ((λ e. omega arith), ((λ e. omega arith), tt)))) (digits-without newline n (omega arith) h)
+  last-free = without-append newline endWord (digits n)
+      ((λ e. omega arith), ((λ e. omega arith), ((λ e. omega arith), ((λ e. omega arith), tt))))
+      (digits-without newline n (omega arith) h)
 
 pub last-spelt : (n : ℕ) (l : List ℕ) → isLast l ≡ true → isDecimal (countPart l) ≡ true → value (countPart l) ≡ n → l ≡ lastLine n
 unfolding isLast countPart lastLine

@@ -1,16 +1,14 @@
 -- Lines and the text that they make: a text of lines without byte 10 in them has just these lines. Assumes nothing.
 use mathlib.Core.Path.{_≡_, refl, sym, ap, _∙_}
-use mathlib.Core.Bool.{Bool, true, false}
+use mathlib.Core.Bool.{true}
 use mathlib.Core.List.{List, [], _∷_, _++_, append-assoc}
 use Prim.Native.Nat.{ℕ, zero, suc, _+_, _-_, _≤_, _<_}
 use native.Mathlib.Omega.{arith}
-use native.Mathlib.Numerals.{add-one}
-use lib.Dec.{ltb, eqb}
-use lib.ListN.{length, getD, take, drop, length-append, length-drop, List·getD-append}
-use lib.Seq.{take-add, take-suc, drop-cons, drop-drop, take-append-seam, drop-append-add, getD-append-seam, drop-length, take-length}
-use borrow.Author.Tests.{ltb-true, lt-ltb, ne-eqb, eq-eqb, eqb-true, eqb-false}
-use Rattle.link.specs.Least.{least}
-use Rattle.link.proofs.Minimum.{least-is, least-at}
+use lib.Dec.{eqb}
+use lib.ListN.{length, getD, take, drop, length-append, length-drop}
+use lib.Seq.{take-add, take-suc, drop-cons, drop-drop, take-append-seam, drop-append-add, drop-length, take-length}
+use borrow.Author.Tests.{ltb-true, lt-ltb, eqb-true}
+use Rattle.link.proofs.Minimum.{least-is}
 use Rattle.text.specs.Bytes.{newline, seek}
 use Rattle.text.specs.Lines.{nextLine, begin, lineFrom, endedFrom, line, ended}
 use Rattle.text.specs.Writing.{glue}
@@ -42,7 +40,8 @@ module _ (x l r : List ℕ) (at : ℕ) (e : drop at x ≡ l ++ newline ∷ r) (f
 
   found-end : endedFrom x at ≡ true
   unfolding endedFrom
-  found-end = rw (e, seek-first newline l r f) (lt-ltb (length l) (length (l ++ newline ∷ r)) (omega (arith, length-append l (newline ∷ r))))
+  found-end = rw (e, seek-first newline l r f)
+      (lt-ltb (length l) (length (l ++ newline ∷ r)) (omega (arith, length-append l (newline ∷ r))))
 
   found-next : drop (nextLine x at) x ≡ r
   unfolding nextLine
@@ -73,7 +72,8 @@ module _ (ls : List (List ℕ)) (f : AllFree ls) where
   pub end-at : (m : ℕ) → length ls ≡ suc m → begin (glue ls) (suc m) ≡ length (glue ls)
   unfolding glue
   end-at m e =
-      let r : drop (begin (glue ls) (suc m)) (glue ls) ≡ [] = rest-at (suc m) (omega arith) ∙ ap (λ (k : ℕ). glue (drop k ls)) (sym e) ∙ ap glue (drop-length ls) in
+      let r : drop (begin (glue ls) (suc m)) (glue ls) ≡ [] = rest-at (suc m) (omega arith)
+      ∙ ap (λ (k : ℕ). glue (drop k ls)) (sym e) ∙ ap glue (drop-length ls) in
       omega (arith, ended-low (glue ls) m (ended-at m (omega arith)), length-drop (begin (glue ls) (suc m)) (glue ls), ap length r)
 
 -- a text and its first m lines

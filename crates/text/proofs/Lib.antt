@@ -1,14 +1,13 @@
 -- Laws that belong to no one function.
 pub mod ForLink
 pub mod Decimals
-pub mod Parts
 pub mod LineForms
+pub mod GoodLines
 pub mod Lined
 pub mod Walk
 pub mod Right
-pub mod Delays
+pub mod Values
 pub mod Answers
-pub mod Head
 pub mod Spelling
 pub mod Finding
 pub mod Gluing
@@ -16,5 +15,7 @@ pub mod Forms
 pub mod Texts
 pub mod Taken
 pub mod Lost
+pub mod Places
+pub mod Saying
 pub mod Promises
 pub mod Worked

@@ -1,7 +1,7 @@
 -- Each line by itself: what the code shows of it, and what it means that nothing is wrong. Assumes nothing.
 use mathlib.Core.Path.{_≡_, refl, sym, ap, _∙_}
-use mathlib.Core.Bool.{Bool, true, false, not, cond, _&&_, and-false}
-use mathlib.Core.List.{List, [], _∷_, map}
+use mathlib.Core.Bool.{Bool, true, false, not, cond, and-false}
+use mathlib.Core.List.{List, [], _∷_}
 use Prim.Native.Nat.{ℕ, zero, suc, _+_, _-_, _≤_, _<_}
 use native.Mathlib.Numerals.{add-one}
 use native.Mathlib.Omega.{arith}
@@ -9,17 +9,18 @@ use lib.Dec.{leb, eqb}
 use lib.ListN.{length, take, drop, drop-of-length-le}
 use borrow.Author.Tests.{leb-true}
 use Rattle.link.specs.Limits.{badLine}
-use Rattle.link.specs.Refusal.{Cause, when, first, linkFaults}
+use Rattle.link.specs.Refusal.{Cause, first, linkFaults}
 use Rattle.link.specs.declared.Link.{Link}
 use Rattle.link.specs.declared.Judged.{Judged}
 use Rattle.link.specs.declared.Judged.the-variants.{Fine, Fault}
-use Rattle.link.proofs.Bools.{clash, and-parts, lt-or-ge, is-false}
+use Rattle.link.proofs.Bools.{clash, and-parts, lt-or-ge}
 use Rattle.link.proofs.Faults.{below, pass}
 use mathlib.Core.Logic.{⊎-elim}
 use Rattle.text.specs.Bytes.{space, seek, same, begins, endWord}
 use Rattle.text.specs.Decimal.{maxDigits, isDecimal, value}
-use Rattle.text.proofs.Parts.{tail-part}
-use Rattle.text.specs.Faults.{firstPart, secondPart, isPair, linkOf, isLast, countPart, placedAt, titleFaults, pairFaults, lastFaults, rowFaults, ownFaults}
+use Rattle.text.proofs.ForLink.{tail-part}
+use Rattle.text.specs.Faults.{firstPart, secondPart, isPair, linkOf, isLast, countPart, placedAt}
+use Rattle.text.specs.Faults.{titleFaults, pairFaults, lastFaults, rowFaults, ownFaults}
 
 no-number : isDecimal [] ≡ false
 unfolding isDecimal
@@ -30,7 +31,8 @@ pub no-space : (l : List ℕ) → length l ≤ seek space l → isPair l ≡ fal
 unfolding isPair secondPart
 no-space l h = rw (drop-of-length-le l {i = suc (seek space l)} (omega arith), no-number, and-false)
 
-pub pair-parts : (l : List ℕ) → isPair l ≡ true → (isDecimal (firstPart l) ≡ true) × (isDecimal (secondPart l) ≡ true) × (seek space l < length l)
+pub pair-parts : (l : List ℕ) → isPair l ≡ true → (isDecimal (firstPart l) ≡ true) × (isDecimal (secondPart l) ≡ true)
+    × (seek space l < length l)
 unfolding isPair
 pair-parts l e =
     let w = and-parts (isDecimal (firstPart l)) (isDecimal (secondPart l)) e in
@@ -45,7 +47,11 @@ pub count-part : (l : List ℕ) → take (length l - 4) (drop 4 l) ≡ countPart
 unfolding countPart
 count-part l = tail-part l 4
 
-pub count-said : (l : List ℕ) (v n : ℕ) (b : Bool) → v ≡ value (take (length l - 4) (drop 4 l)) → eqb v n ≡ b → not (eqb (value (countPart l)) n) ≡ not b
+pub not-number : (l : List ℕ) {r b : Bool} → r ≡ isDecimal (take (length l - 4) (drop 4 l)) → not r ≡ b → not (isDecimal (countPart l)) ≡ b
+not-number l e f = ap not (ap isDecimal (sym (count-part l)) ∙ sym e) ∙ f
+
+pub count-said : (l : List ℕ) (v n : ℕ) (b : Bool) → v ≡ value (take (length l - 4) (drop 4 l)) → eqb v n ≡ b
+    → not (eqb (value (countPart l)) n) ≡ not b
 count-said l v n b e f = ap not (ap (λ (v : ℕ). eqb v n) (ap value (sym (count-part l)) ∙ sym e) ∙ f)
 
 -- the number behind the space of line two
@@ -60,7 +66,8 @@ first-part l k e = rw e
 pub next-low : (l : List ℕ) (k : ℕ) → k ≡ seek space l → seek space l < length l → k + 1 ≤ length l
 next-low l k e h = omega arith
 
-pub link-made : (l : List ℕ) (p s : ℕ) → p ≡ value (firstPart l) → s ≡ value (secondPart l) → _≡_ {A = Link} (record { period = p; size = s }) (linkOf l)
+pub link-made : (l : List ℕ) (p s : ℕ) → p ≡ value (firstPart l) → s ≡ value (secondPart l)
+    → _≡_ {A = Link} (record { period = p; size = s }) (linkOf l)
 unfolding linkOf
 link-made l p s e f = rw (e, f)
 
@@ -74,20 +81,16 @@ unfolding first placedAt
 placed at [] = refl
 placed at (c ∷ cs) = go (c .applies) (placed at cs)
   where
-    go : (b : Bool) → first (placedAt at cs) ≡ moved at (first cs) → cond b (Fault (c .number) at) (first (placedAt at cs)) ≡ moved at (cond b (Fault (c .number) (c .place)) (first cs))
+    go : (b : Bool) → first (placedAt at cs) ≡ moved at (first cs)
+        → cond b (Fault (c .number) at) (first (placedAt at cs)) ≡ moved at (cond b (Fault (c .number) (c .place)) (first cs))
     go true e = refl
     go false e = e
 
--- from the third line on
-pub pair-judged : (l : List ℕ) (at : ℕ) (j : Judged) → isPair l ≡ true → j ≡ first (linkFaults (linkOf l)) → moved at j ≡ first (pairFaults l at)
+-- line two: its form, then the values of the link at this place
+pub pair-judged : (l : List ℕ) (at : ℕ) (j : Judged) → isPair l ≡ true → j ≡ first (linkFaults (linkOf l))
+    → moved at j ≡ first (pairFaults l at)
 unfolding pairFaults
 pair-judged l at j e f = pass _ _ badLine at (ap not e) (ap (moved at) f ∙ sym (placed at (linkFaults (linkOf l))))
-
-pub own-more : (k : ℕ) → (k ≡ 0 → ⊥) → (k ≡ 1 → ⊥) → (l : List ℕ) (at : ℕ) → ownFaults k l at ≡ cond (isLast l) (lastFaults (k - 2) l at) (rowFaults (k - 2) l at)
-unfolding ownFaults
-own-more zero h g l at = absurd (h refl)
-own-more (suc zero) h g l at = absurd (g refl)
-own-more (suc (suc n)) h g l at = let e : suc (suc n) - 2 ≡ n = omega arith in rw e
 
 pub own-title : (k : ℕ) → k ≡ 0 → (l : List ℕ) (at : ℕ) → ownFaults k l at ≡ titleFaults l at
 unfolding ownFaults
@@ -97,8 +100,10 @@ pub own-pair : (k : ℕ) → k ≡ 1 → (l : List ℕ) (at : ℕ) → ownFaults
 unfolding ownFaults
 own-pair k e l at = rw e
 
-pub own-last : (k : ℕ) → (k ≡ 0 → ⊥) → (k ≡ 1 → ⊥) → (l : List ℕ) (at : ℕ) → isLast l ≡ true → ownFaults k l at ≡ lastFaults (k - 2) l at
-own-last k h g l at e = own-more k h g l at ∙ ap (λ (b : Bool). cond b (lastFaults (k - 2) l at) (rowFaults (k - 2) l at)) e
-
-pub own-row : (k : ℕ) → (k ≡ 0 → ⊥) → (k ≡ 1 → ⊥) → (l : List ℕ) (at : ℕ) → isLast l ≡ false → ownFaults k l at ≡ rowFaults (k - 2) l at
-own-row k h g l at e = own-more k h g l at ∙ ap (λ (b : Bool). cond b (lastFaults (k - 2) l at) (rowFaults (k - 2) l at)) e
+-- from the third line on
+pub own-other : (k : ℕ) → (k ≡ 0 → ⊥) → (k ≡ 1 → ⊥) → (l : List ℕ) (at : ℕ) (b : Bool) → isLast l ≡ b
+    → ownFaults k l at ≡ cond b (lastFaults (k - 2) l at) (rowFaults (k - 2) l at)
+unfolding ownFaults
+own-other zero h g l at b e = absurd (h refl)
+own-other (suc zero) h g l at b e = absurd (g refl)
+own-other (suc (suc n)) h g l at b e = let z : suc (suc n) - 2 ≡ n = omega arith in rw (z, e)

@@ -1,8 +1,8 @@
 -- A text that has lost one byte 10 is the text of no table. Assumes nothing.
 use mathlib.Core.Path.{_≡_, refl, sym, ap, _∙_, subst}
-use mathlib.Core.List.{List, [], _∷_, _++_, map, append-assoc, append-nil}
+use mathlib.Core.List.{List, [], _∷_, _++_, append-assoc, append-nil}
 use mathlib.Core.Logic.{_⊎_, inl, inr, ⊎-elim}
-use Prim.Native.Nat.{ℕ, zero, suc, _+_, _-_, _≤_, _<_, _^_}
+use Prim.Native.Nat.{ℕ, suc, _+_, _-_, _≤_, _<_, _^_}
 use native.Mathlib.Omega.{arith}
 use lib.ListN.{length, getD, length-append, List·getD-append}
 use lib.Seq.{getD-append-add}
@@ -14,16 +14,15 @@ use Rattle.text.specs.Faults.{countPart}
 use Rattle.text.specs.Writing.{digits, glue, lastLine, tableLines, textOf}
 use Rattle.text.proofs.Decimals.{digit}
 use Rattle.text.proofs.Spelling.{digits-all, digits-some}
-use Rattle.text.proofs.Finding.{Without, without-append}
+use Rattle.text.proofs.Finding.{without-append}
 use Rattle.text.proofs.Gluing.{Free, AllFree, all-free-append}
 use Rattle.text.proofs.Forms.{count-value}
 use Rattle.text.proofs.Texts.{count-low, delay-low, lines-free, line-count, row-there, last-there}
-
-never : {A : Type 0} → _≡_ {A = ℕ} 0 1 → A
-never e = absurd (omega arith)
+use Rattle.text.proofs.ForLink.{never}
 
 -- two ways to cut one list at a byte 10, the first of them at the first one
-meet : (l r a b : List ℕ) → Free l → l ++ newline ∷ r ≡ a ++ newline ∷ b → ((a ≡ l) × (b ≡ r)) ⊎ ((c : List ℕ) × (a ≡ l ++ newline ∷ c) × (r ≡ c ++ newline ∷ b))
+meet : (l r a b : List ℕ) → Free l → l ++ newline ∷ r ≡ a ++ newline ∷ b → ((a ≡ l) × (b ≡ r))
+    ⊎ ((c : List ℕ) × (a ≡ l ++ newline ∷ c) × (r ≡ c ++ newline ∷ b))
 meet [] r [] b f e = inl (refl, cc)
 meet [] r (c ∷ a) b f e = inr (a, cc, cc)
 meet (d ∷ l) r [] b f e = absurd (f .0 cc)
@@ -86,7 +85,8 @@ joined (p ∷ ps) l m qs =
 
 -- the line at a place behind those before it
 at-place : (ls ps qs : List (List ℕ)) (i j : ℕ) (l : List ℕ) → ls ≡ ps ++ qs → i ≡ length ps + j → getD ls i [] ≡ l → getD qs j [] ≡ l
-at-place ls ps qs i j l e h t = sym (getD-append-add ps qs j []) ∙ ap (λ (n : ℕ). getD (ps ++ qs) n []) (sym h) ∙ ap (λ (t : List (List ℕ)). getD t i []) (sym e) ∙ t
+at-place ls ps qs i j l e h t = sym (getD-append-add ps qs j []) ∙ ap (λ (n : ℕ). getD (ps ++ qs) n []) (sym h)
+    ∙ ap (λ (t : List (List ℕ)). getD t i []) (sym e) ∙ t
 
 -- a last line begins with `e`, and tells its number
 starts-with-e : (n : ℕ) (l : List ℕ) → l ≡ lastLine n → getD l 0 0 ≡ 101
@@ -103,11 +103,13 @@ module _ (k k′ : Link) (ds ds′ : List ℕ) (g : GoodTable k ds) (g′ : Good
       let f = free-parts ps (l ∷ []) (subst (λ (t : List (List ℕ)). AllFree t) e (lines-free k ds g)) in
       let u = unglue (tableLines k′ ds′) ps l (lines-free k′ ds′ g′) (f .0) (f .1 .0) t in
       let n = length-append ps (l ∷ []) in
-      let w = at-place (tableLines k ds) ps (l ∷ []) (suc (suc (length ds))) 0 _ e (omega (arith, line-count k ds g, ap length e)) (last-there k ds g) in
+      let w = at-place (tableLines k ds) ps (l ∷ []) (suc (suc (length ds))) 0 _ e (omega (arith, line-count k ds g, ap length e))
+      (last-there k ds g) in
       let z : getD l 0 0 ≡ 101 = starts-with-e (length ds) l w in
       omega (arith, ap (λ (t : List ℕ). getD t 0 0) (u .1))
 
-  module _ (ps : List (List ℕ)) (l m : List ℕ) (qs : List (List ℕ)) (e : tableLines k ds ≡ ps ++ l ∷ m ∷ qs) (t : tableLines k′ ds′ ≡ ps ++ (l ++ m) ∷ qs) where
+  module _ (ps : List (List ℕ)) (l m : List ℕ) (qs : List (List ℕ)) (e : tableLines k ds ≡ ps ++ l ∷ m ∷ qs)
+      (t : tableLines k′ ds′ ≡ ps ++ (l ++ m) ∷ qs) where
     many : length ps + suc (suc (length qs)) ≡ suc (suc (suc (length ds)))
     many = sym (length-append ps (l ∷ m ∷ qs)) ∙ sym (ap length e) ∙ line-count k ds g
 
@@ -122,35 +124,45 @@ module _ (k k′ : Link) (ds ds′ : List ℕ) (g : GoodTable k ds) (g′ : Good
       let j = length ds - 1 in
       let h : j < length ds = omega (arith, g .rows-low) in
       let n = delay-low k ds g j h in
-      let row : l ≡ digits (getD ds j 0) = at-place (tableLines k ds) ps (l ∷ m ∷ []) (suc (suc j)) 0 _ e (omega (arith, g .rows-low)) (row-there k ds g j h) in
-      let last : l ++ m ≡ lastLine (length ds′) = at-place (tableLines k′ ds′) ps ((l ++ m) ∷ []) (suc (suc (length ds′))) 0 _ t (omega arith) (last-there k′ ds′ g′) in
+      let row : l ≡ digits (getD ds j 0) = at-place (tableLines k ds) ps (l ∷ m ∷ []) (suc (suc j)) 0 _ e
+      (omega (arith, g .rows-low)) (row-there k ds g j h) in
+      let last : l ++ m ≡ lastLine (length ds′) = at-place (tableLines k′ ds′) ps ((l ++ m) ∷ []) (suc (suc (length ds′))) 0 _ t
+      (omega arith) (last-there k′ ds′ g′) in
       let some : 1 ≤ length l = omega (arith, digits-some (getD ds j 0) n, ap length row) in
       let d = digit (getD (digits (getD ds j 0)) 0 0) (digits-all (getD ds j 0) n 0 (digits-some (getD ds j 0) n)) in
       omega (arith, starts-with-e (length ds′) (l ++ m) last, List·getD-append l m 0 0 some, ap (λ (s : List ℕ). getD s 0 0) row)
 
   -- two lines before the last become one: the last line tells a row too many
-  two-rows : (ps : List (List ℕ)) (l m q : List ℕ) (qs : List (List ℕ)) → tableLines k ds ≡ ps ++ l ∷ m ∷ q ∷ qs → tableLines k′ ds′ ≡ ps ++ (l ++ m) ∷ q ∷ qs → ⊥
+  two-rows : (ps : List (List ℕ)) (l m q : List ℕ) (qs : List (List ℕ)) → tableLines k ds ≡ ps ++ l ∷ m ∷ q ∷ qs
+      → tableLines k′ ds′ ≡ ps ++ (l ++ m) ∷ q ∷ qs → ⊥
   two-rows ps l m q qs e t =
       let many = many ps l m (q ∷ qs) e t in
       let fewer = fewer ps l m (q ∷ qs) e t in
-      let a = at-place (tableLines k ds) ps (l ∷ m ∷ q ∷ qs) (suc (suc (length ds))) (suc (suc (length qs))) _ e (omega arith) (last-there k ds g) in
-      let b = at-place (tableLines k′ ds′) ps ((l ++ m) ∷ q ∷ qs) (suc (suc (length ds′))) (suc (length qs)) _ t (omega arith) (last-there k′ ds′ g′) in
+      let a = at-place (tableLines k ds) ps (l ∷ m ∷ q ∷ qs) (suc (suc (length ds))) (suc (suc (length qs))) _ e (omega arith)
+      (last-there k ds g) in
+      let b = at-place (tableLines k′ ds′) ps ((l ++ m) ∷ q ∷ qs) (suc (suc (length ds′))) (suc (length qs)) _ t (omega arith)
+      (last-there k′ ds′ g′) in
       omega (arith, one-count (length ds) (length ds′) (count-low k ds g) (count-low k′ ds′ g′) (sym a ∙ b))
 
-  two-joined : (ps : List (List ℕ)) (l m : List ℕ) (qs : List (List ℕ)) → tableLines k ds ≡ ps ++ l ∷ m ∷ qs → tableLines k′ ds′ ≡ ps ++ (l ++ m) ∷ qs → ⊥
+  two-joined : (ps : List (List ℕ)) (l m : List ℕ) (qs : List (List ℕ)) → tableLines k ds ≡ ps ++ l ∷ m ∷ qs
+      → tableLines k′ ds′ ≡ ps ++ (l ++ m) ∷ qs → ⊥
   two-joined ps l m [] e t = row-and-last ps l m e t
   two-joined ps l m (q ∷ qs) e t = two-rows ps l m q qs e t
 
-  lost-at : (ps : List (List ℕ)) (l : List ℕ) (qs : List (List ℕ)) → tableLines k ds ≡ ps ++ l ∷ qs → textOf k′ ds′ ≡ (glue ps ++ l) ++ glue qs → ⊥
+  lost-at : (ps : List (List ℕ)) (l : List ℕ) (qs : List (List ℕ)) → tableLines k ds ≡ ps ++ l ∷ qs
+      → textOf k′ ds′ ≡ (glue ps ++ l) ++ glue qs → ⊥
   unfolding glue
   lost-at ps l [] e t = last-lost ps l e (t ∙ append-nil (glue ps ++ l))
   lost-at ps l (m ∷ qs) e t =
       let f = free-parts ps (l ∷ m ∷ qs) (subst (λ (t : List (List ℕ)). AllFree t) e (lines-free k ds g)) in
-      let free : AllFree (ps ++ (l ++ m) ∷ qs) = all-free-append ps ((l ++ m) ∷ qs) (f .0) (without-append newline l m (f .1 .0) (f .1 .1 .0), f .1 .1 .1) in
-      let u = unglue (tableLines k′ ds′) (ps ++ (l ++ m) ∷ qs) [] (lines-free k′ ds′ g′) free tt (t ∙ sym (joined ps l m qs) ∙ sym (append-nil (glue (ps ++ (l ++ m) ∷ qs)))) in
+      let free : AllFree (ps ++ (l ++ m) ∷ qs) = all-free-append ps ((l ++ m) ∷ qs) (f .0)
+      (without-append newline l m (f .1 .0) (f .1 .1 .0), f .1 .1 .1) in
+      let u = unglue (tableLines k′ ds′) (ps ++ (l ++ m) ∷ qs) [] (lines-free k′ ds′ g′) free tt
+      (t ∙ sym (joined ps l m qs) ∙ sym (append-nil (glue (ps ++ (l ++ m) ∷ qs)))) in
       two-joined ps l m qs e (u .0)
 
   pub lost : (a b : List ℕ) → textOf k ds ≡ a ++ newline ∷ b → textOf k′ ds′ ≡ a ++ b → ⊥
   lost a b e t =
       let c = cut (tableLines k ds) (lines-free k ds g) a b e in
-      lost-at (c .before) (c .here) (c .behind) (c .lines) (t ∙ ap (λ (s : List ℕ). s ++ b) (c .front) ∙ ap (λ (s : List ℕ). (glue (c .before) ++ c .here) ++ s) (c .rest))
+      lost-at (c .before) (c .here) (c .behind) (c .lines)
+      (t ∙ ap (λ (s : List ℕ). s ++ b) (c .front) ∙ ap (λ (s : List ℕ). (glue (c .before) ++ c .here) ++ s) (c .rest))

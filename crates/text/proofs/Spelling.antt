@@ -1,6 +1,6 @@
 -- A number and its digits: each number below 10^8 has one spelling, which is its value's. Assumes nothing.
 use mathlib.Core.Path.{_≡_, refl, sym, ap, _∙_}
-use mathlib.Core.Bool.{Bool, true, false, not, cond, _&&_, and-false}
+use mathlib.Core.Bool.{Bool, true, false, cond, and-false}
 use mathlib.Core.List.{List, [], _∷_, _++_}
 use mathlib.Core.Logic.{⊎-elim}
 use Prim.Native.Nat.{ℕ, zero, suc, _+_, _-_, _*_, _/_, _%_, _≤_, _<_, _^_}
@@ -10,11 +10,11 @@ use lib.Dec.{ltb, eqb}
 use lib.ListN.{length, getD, length-append, List·getD-append}
 use lib.Seq.{getD-append-seam}
 use borrow.Author.Tests.{ltb-true, ltb-false, lt-ltb, le-ltb, ne-eqb, eqb-false}
-use Rattle.link.proofs.Bools.{clash, lt-or-ge}
+use Rattle.link.proofs.Bools.{lt-or-ge}
 use Rattle.link.proofs.Faults.{inside}
 use Rattle.text.specs.Decimal.{maxDigits, naught, nine, isOther, leadingZero, isDecimal, valueFrom, value}
 use Rattle.text.specs.Writing.{digitsIn, digits}
-use Rattle.text.proofs.Decimals.{Digits, Spelt, Decimal, digit, decimal, is-decimal, value-from-more, value-bound}
+use Rattle.text.proofs.Decimals.{Digits, Spelt, digit, decimal, is-decimal, value-from-more}
 
 a-digit : (b : ℕ) → naught ≤ b → b ≤ nine → isOther b ≡ false
 unfolding isOther
@@ -57,14 +57,20 @@ record Spells (k n : ℕ) (bs : List ℕ) : Type 0 where
 spells-one : (k n : ℕ) → n < 10 → Spells (suc k) n ((naught + n) ∷ [])
 unfolding valueFrom
 spells-one k n l =
-    record { spelt = one-digit k _ (a-digit _ (omega arith) (omega arith)); same-value = omega arith; front = λ h. ne-eqb (naught + n) naught (λ e. omega arith) }
+    record {
+      spelt = one-digit k _ (a-digit _ (omega arith) (omega arith));
+      same-value = omega arith;
+      front = λ h. ne-eqb
+          (naught + n) naught (λ e. omega arith);
+    }
 
 spells-more : (k n : ℕ) (bs : List ℕ) → 10 ≤ n → Spells k (n / 10) bs → Spells (suc k) n (bs ++ (naught + n % 10) ∷ [])
 spells-more k n bs l s =
     let w = one-more k bs (naught + n % 10) (s .spelt) (s .front (omega arith)) (a-digit _ (omega arith) (omega arith)) in
     record { spelt = w .0; same-value = value-from-more 0 bs (naught + n % 10) ∙ rw (s .same-value) (omega arith); front = λ h. w .1 }
 
-spells-if : (k n : ℕ) (bs : List ℕ) (b : Bool) → ltb n 10 ≡ b → (10 ≤ n → Spells k (n / 10) bs) → Spells (suc k) n (cond b ((naught + n) ∷ []) (bs ++ ((naught + n % 10) ∷ [])))
+spells-if : (k n : ℕ) (bs : List ℕ) (b : Bool) → ltb n 10 ≡ b → (10 ≤ n → Spells k (n / 10) bs)
+    → Spells (suc k) n (cond b ((naught + n) ∷ []) (bs ++ ((naught + n % 10) ∷ [])))
 spells-if k n bs true e s = spells-one k n (ltb-true _ _ e)
 spells-if k n bs false e s = spells-more k n bs (ltb-false _ _ e) (s (ltb-false _ _ e))
 
@@ -116,7 +122,8 @@ last-one k b d =
     let e : naught + (0 * 10 + (b - naught)) ≡ b = omega arith in
     rw (lt-ltb (0 * 10 + (b - naught)) 10 (omega arith), e)
 
-last-more : (k : ℕ) (xs : List ℕ) (b : ℕ) → isOther b ≡ false → 1 ≤ value xs → digitsIn k (value xs) ≡ xs → digitsIn (suc k) (value (xs ++ b ∷ [])) ≡ xs ++ b ∷ []
+last-more : (k : ℕ) (xs : List ℕ) (b : ℕ) → isOther b ≡ false → 1 ≤ value xs → digitsIn k (value xs) ≡ xs
+    → digitsIn (suc k) (value (xs ++ b ∷ [])) ≡ xs ++ b ∷ []
 unfolding digitsIn
 last-more k xs b d v e =
     let w = digit b d in
@@ -125,7 +132,8 @@ last-more k xs b d v e =
     let r : naught + (value xs * 10 + (b - naught)) % 10 ≡ b = omega arith in
     rw (n, le-ltb (value xs * 10 + (b - naught)) 10 (omega arith), q, r, e)
 
-again-if : (k : ℕ) → ((ys : List ℕ) → Spelt k ys → digitsIn k (value ys) ≡ ys) → (xs : List ℕ) (b : ℕ) → Spelt (suc k) (xs ++ b ∷ []) → digitsIn (suc k) (value (xs ++ b ∷ [])) ≡ xs ++ b ∷ []
+again-if : (k : ℕ) → ((ys : List ℕ) → Spelt k ys → digitsIn k (value ys) ≡ ys) → (xs : List ℕ) (b : ℕ)
+    → Spelt (suc k) (xs ++ b ∷ []) → digitsIn (suc k) (value (xs ++ b ∷ [])) ≡ xs ++ b ∷ []
 unfolding valueFrom
 again-if k ih [] b s = last-one k b (s .digits 0 (omega arith))
 again-if k ih (x ∷ xs) b s =

@@ -1,18 +1,16 @@
 -- An accepted text is the text of its table. Assumes nothing.
 use mathlib.Core.Path.{_≡_, refl, sym, ap, _∙_}
-use mathlib.Core.Bool.{Bool, true, false}
 use mathlib.Core.List.{List, [], _∷_, _++_, map}
 use mathlib.Core.Logic.{⊎-elim}
 use Prim.Native.Nat.{ℕ, zero, suc, _+_, _≤_, _<_}
 use native.Mathlib.Omega.{arith}
 use lib.Dec.{ltb}
-use lib.ListN.{length, getD, List·getD-append}
-use lib.Seq.{getD-at}
+use lib.ListN.{length, getD, take, drop, List·getD-append}
+use lib.Seq.{getD-at, take-append-seam}
 use borrow.Author.Tests.{ltb-false, le-ltb}
 use Rattle.link.specs.Limits.{maxDelay, maxText, maxRows, longText, bytesAfter, badLength, badRows, badDelay}
-use Rattle.link.specs.Least.{some}
 use Rattle.link.specs.Range.{GoodTable}
-use Rattle.link.specs.Refusal.{first, linkFaults, rowFaults, tableFaults}
+use Rattle.link.specs.Refusal.{first, linkFaults, rowFaults}
 use Rattle.link.specs.declared.Link.{Link}
 use Rattle.link.specs.declared.Judged.{Judged}
 use Rattle.link.specs.declared.Judged.the-variants.{Fine, Fault}
@@ -23,8 +21,8 @@ use Rattle.link.proofs.Faults.{pass, passed, fine, front-pass, front-fine, insi
 use Rattle.text.specs.Bytes.{titleWord}
 use Rattle.text.specs.Decimal.{value}
 use Rattle.text.specs.Lines.{begin, line}
-use Rattle.text.specs.Faults.{linkOf, rowsOf, textFaults, endOf, lateFaults, readFaults}
-use Rattle.text.specs.Reading.{table, tableLink, delaysOf, Outcome, unless, reading}
+use Rattle.text.specs.Faults.{rowsOf, textFaults, endOf, lateFaults, readFaults}
+use Rattle.text.specs.Reading.{table, says, gives, tableLink, delaysOf, Outcome, unless, reading}
 use Rattle.text.specs.Writing.{digits, glue, pairLine, lastLine, tableLines, textOf}
 use Rattle.text.proofs.Spelling.{decimal-digits}
 use Rattle.text.proofs.Finding.{same-equal}
@@ -32,7 +30,8 @@ use Rattle.text.proofs.Gluing.{linesTo, all-glued}
 use Rattle.text.proofs.Forms.{pair-spelt, last-spelt}
 use Rattle.text.proofs.Walk.{ended-low}
 use Rattle.text.proofs.Right.{Right, right}
-use Rattle.text.proofs.Delays.{length-delays}
+use Rattle.text.proofs.Values.{length-delays}
+use Rattle.text.proofs.Texts.{text-accepted}
 
 map-more : (ds : List ℕ) (d : ℕ) → map digits (ds ++ d ∷ []) ≡ map digits ds ++ digits d ∷ []
 map-more [] d = refl
@@ -48,7 +47,8 @@ module _ (x : List ℕ) (n : ℕ) (r : Right x n) where
       ap {B = List (List ℕ)} (λ ls. ls ++ line x (suc (suc i)) ∷ []) (lines-so-far i (omega arith))
       ∙ ap {B = List (List ℕ)} (λ l. titleWord ∷ pairLine (tableLink x) ∷ (map digits (delaysOf x i) ++ l ∷ []))
       (sym (decimal-digits (line x (suc (suc i))) (r .row i h .0 .decimal)))
-      ∙ ap {B = List (List ℕ)} (λ ls. titleWord ∷ pairLine (tableLink x) ∷ ls) (sym (map-more (delaysOf x i) (value (line x (suc (suc i))))))
+      ∙ ap {B = List (List ℕ)} (λ ls. titleWord ∷ pairLine (tableLink x) ∷ ls)
+      (sym (map-more (delaysOf x i) (value (line x (suc (suc i))))))
 
   all-lines : linesTo x (suc (suc (suc n))) ≡ tableLines (tableLink x) (delaysOf x n)
   all-lines =
@@ -64,7 +64,8 @@ module _ (x : List ℕ) (n : ℕ) (r : Right x n) where
   delay-at zero i l = absurd (omega arith)
   delay-at (suc m) i l =
       ⊎-elim (λ h. List·getD-append (delaysOf x m) _ 0 i (omega (arith, length-delays x m)) ∙ delay-at m i h)
-      (λ h. let z : i ≡ m = omega arith in rw z (getD-at (delaysOf x m) (value (line x (suc (suc m)))) [] 0 m (length-delays x m))) (lt-or-ge i m)
+      (λ h. let z : i ≡ m = omega arith in rw z (getD-at (delaysOf x m) (value (line x (suc (suc m)))) [] 0 m (length-delays x m)))
+      (lt-or-ge i m)
 
   low : (i : ℕ) → i < length (delaysOf x n) → getD (delaysOf x n) i 0 ≤ maxDelay
   low i l = let h : i < n = omega (arith, length-delays x n) in rw (delay-at n i h) (r .row i h .0 .low)
@@ -74,8 +75,10 @@ module _ (x : List ℕ) (n : ℕ) (r : Right x n) where
   good =
       good-table _ _
       (sym (front-pass (linkFaults (tableLink x)) (rowFaults (delaysOf x n)) Fine (r .pair .values)
-      (pass _ _ badRows 0 (inside 1 maxRows (length (delaysOf x n)) (omega (arith, length-delays x n, r .last .some-row)) (omega (arith, length-delays x n, r .few)))
-      (pass _ _ badDelay _ (some-none (λ i. ltb maxDelay (getD (delaysOf x n) i 0)) (length (delaysOf x n)) (λ i l. le-ltb maxDelay (getD (delaysOf x n) i 0) (low i l))) fine))))
+      (pass _ _ badRows 0 (inside 1 maxRows (length (delaysOf x n)) (omega (arith, length-delays x n, r .last .some-row))
+      (omega (arith, length-delays x n, r .few)))
+      (pass _ _ badDelay _ (some-none (λ i. ltb maxDelay (getD (delaysOf x n) i 0)) (length (delaysOf x n))
+      (λ i l. le-ltb maxDelay (getD (delaysOf x n) i 0) (low i l))) fine))))
 
 whole-length : (x : List ℕ) → first (textFaults x) ≡ Fine → length x ≤ endOf x → begin x (suc (suc (suc (rowsOf x)))) ≡ length x
 unfolding endOf
@@ -85,13 +88,18 @@ accepted-fine : (j : Judged) (old : List ℕ) (o : Outcome) → unless j old o .
 accepted-fine Fine old o e = refl
 accepted-fine (Fault n p) old o e = let z : _≡_ {A = ℕ} 0 1 = cc in absurd (omega arith)
 
--- the table that a text is accepted as
-pub record TextOf (x old : List ℕ) (k : Link) (ds : List ℕ) : Type 0 where
+-- x is the text of this good table, and with the list old it is answered so
+pub record AcceptedAs (x old : List ℕ) (k : Link) (ds : List ℕ) : Type 0 where
   pub good : GoodTable k ds
   pub text : x ≡ textOf k ds
   pub room : length ds ≤ length old
+  pub answer : reading x old ≡ gives (says table 0 0 (k .period) (k .size) (length ds)) (ds ++ drop (length ds) old)
 
-pub accepted-text : (x old : List ℕ) → reading x old .says .verdict ≡ table → TextOf x old (tableLink x) (delaysOf x (rowsOf x))
+the-table : (x old : List ℕ) (k : Link) (ds : List ℕ) → GoodTable k ds → x ≡ textOf k ds → length ds ≤ length old → AcceptedAs x old k ds
+the-table x old k ds g e h =
+    record { good = g; text = e; room = h; answer = ap (λ (y : List ℕ). reading y old) e ∙ text-accepted k ds old g h }
+
+pub accepted-text : (x old : List ℕ) → reading x old .says .verdict ≡ table → AcceptedAs x old (tableLink x) (delaysOf x (rowsOf x))
 unfolding reading readFaults lateFaults
 accepted-text x old e =
     let f = accepted-fine (first (readFaults x (length old))) old _ e in
@@ -100,8 +108,24 @@ accepted-text x old e =
     let c = passed (ltb (endOf x) (length x)) bytesAfter (endOf x) _ (b .1) in
     let d = passed (ltb (length old) (rowsOf x)) badLength 0 _ (c .1) in
     let r = right x (b .0) in
-    record {
-      good = good x (rowsOf x) r;
-      text = is-text x (rowsOf x) r (whole-length x (b .0) (ltb-false _ _ (c .0)));
-      room = omega (arith, ltb-false (length old) (rowsOf x) (d .0), length-delays x (rowsOf x));
-    }
+    the-table x old (tableLink x) (delaysOf x (rowsOf x)) (good x (rowsOf x) r)
+    (is-text x (rowsOf x) r (whole-length x (b .0) (ltb-false _ _ (c .0))))
+    (omega (arith, ltb-false (length old) (rowsOf x) (d .0), length-delays x (rowsOf x)))
+
+-- two texts that are answered by the same table are the same text
+same-link : (k l : Link) → k .period ≡ l .period → k .size ≡ l .size → k ≡ l
+same-link k l e f =
+    ap {B = Link} (λ (p : ℕ). record { period = p; size = k .size }) e
+    ∙ ap {B = Link} (λ (s : ℕ). record { period = l .period; size = s }) f
+
+same-front : (xs ys a b : List ℕ) → length xs ≡ length ys → xs ++ a ≡ ys ++ b → xs ≡ ys
+same-front xs ys a b n e =
+    sym (take-append-seam xs a) ∙ ap (take (length xs)) e ∙ ap (λ (m : ℕ). take m (ys ++ b)) n ∙ take-append-seam ys b
+
+pub same-text : {x y old : List ℕ} {k l : Link} {ds es : List ℕ} → AcceptedAs x old k ds → AcceptedAs y old l es
+    → reading x old ≡ reading y old → x ≡ y
+same-text {x} {y} {old} {k} {l} {ds} {es} a b f =
+    let g = sym (a .answer) ∙ f ∙ b .answer in
+    let e = same-link k l (ap (λ (o : Outcome). o .says .period) g) (ap (λ (o : Outcome). o .says .size) g) in
+    let d = same-front ds es _ _ (ap (λ (o : Outcome). o .says .rows) g) (ap (λ (o : Outcome). o .leaves) g) in
+    a .text ∙ ap (λ (k : Link). textOf k ds) e ∙ ap (textOf l) d ∙ sym (b .text)

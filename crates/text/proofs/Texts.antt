@@ -1,31 +1,30 @@
 -- The text of a good table is accepted, as that table. Assumes nothing.
 use mathlib.Core.Path.{_≡_, refl, sym, ap, _∙_}
-use mathlib.Core.Bool.{Bool, true, false}
 use mathlib.Core.List.{List, [], _∷_, _++_, map}
 use Prim.Native.Nat.{ℕ, zero, suc, _+_, _*_, _≤_, _<_, _^_}
 use native.Mathlib.Omega.{arith}
 use lib.ListN.{length, getD, take, drop, length-append, length-map, List·getD-append}
 use lib.Seq.{take-suc, take-length, getD-at}
 use borrow.Author.Tests.{le-ltb}
-use Rattle.link.specs.Limits.{maxDelay, maxText, maxRows, longText, bytesAfter, badLength}
+use Rattle.link.specs.Limits.{maxDelay, maxText, longText, bytesAfter, badLength}
 use Rattle.link.specs.Range.{GoodTable}
-use Rattle.link.specs.Refusal.{first, linkFaults, rowFaults, tableFaults}
+use Rattle.link.specs.Refusal.{first, linkFaults, rowFaults}
 use Rattle.link.specs.declared.Link.{Link}
-use Rattle.link.specs.declared.Judged.{Judged}
-use Rattle.link.specs.declared.Judged.the-variants.{Fine, Fault}
+use Rattle.link.specs.declared.Judged.the-variants.{Fine}
 use Rattle.link.proofs.Accepted.{fine-table}
 use Rattle.link.proofs.Faults.{pass, fine, front-pass, front-fine}
 use Rattle.text.specs.Bytes.{newline, space, same, titleWord}
-use Rattle.text.specs.Decimal.{isDecimal, value}
-use Rattle.text.specs.Lines.{begin, line}
-use Rattle.text.specs.Faults.{isLast, linkOf, rowsOf, textFaults, endOf, lateFaults, readFaults}
+use Rattle.text.specs.Decimal.{value}
+use Rattle.text.specs.Lines.{line}
+use Rattle.text.specs.Faults.{rowsOf, endOf, lateFaults, readFaults}
 use Rattle.text.specs.Reading.{table, says, gives, delaysOf, accepted, reading}
 use Rattle.text.specs.Writing.{digits, glue, pairLine, lastLine, tableLines, textOf}
-use Rattle.text.proofs.Spelling.{digits-decimal, digits-value, digits-all, digits-short}
-use Rattle.text.proofs.Finding.{Without, same-self}
-use Rattle.text.proofs.Gluing.{Free, AllFree, all-free-append, line-at, ended-at, end-at}
-use Rattle.text.proofs.Forms.{digits-without, pair-is, link-is, pair-free, last-is, count-decimal, count-value, last-free, row-not-last}
-use Rattle.text.proofs.Right.{Right, GoodRow, GoodLast, GoodPair, rows-right, right-fine}
+use Rattle.text.proofs.Spelling.{digits-decimal, digits-value, digits-short}
+use Rattle.text.proofs.Finding.{same-self}
+use Rattle.text.proofs.Gluing.{AllFree, all-free-append, line-at, ended-at, end-at}
+use Rattle.text.proofs.Forms.{digits-without, pair-is, link-is, pair-free, last-is}
+use Rattle.text.proofs.Forms.{count-decimal, count-value, last-free, row-not-last}
+use Rattle.text.proofs.Right.{Right, rows-right, right-fine}
 
 rows-free : (ds : List ℕ) → ((i : ℕ) → i < length ds → getD ds i 0 ≤ maxDelay) → AllFree (map digits ds)
 rows-free [] h = tt
@@ -39,12 +38,19 @@ row-of (d ∷ ds) zero h = refl
 row-of (d ∷ ds) (suc i) h = row-of ds i (omega arith)
 
 -- a row is at most nine bytes, and the last line at most 13
-rows-short : (ds ls : List ℕ) → ((i : ℕ) → i < length ds → getD ds i 0 ≤ maxDelay) → length (glue (map digits ds ++ ls ∷ [])) ≤ 9 * length ds + length ls + 1
+rows-short : (ds ls : List ℕ) → ((i : ℕ) → i < length ds → getD ds i 0 ≤ maxDelay)
+    → length (glue (map digits ds ++ ls ∷ [])) ≤ 9 * length ds + length ls + 1
 unfolding glue
 rows-short [] ls h = omega (arith, length-append ls (newline ∷ []))
 rows-short (d ∷ ds) ls h =
     let l = h 0 (omega arith) in
-    omega (arith, length-append (digits d) (newline ∷ glue (map digits ds ++ ls ∷ [])), digits-short d (omega arith), rows-short ds ls (λ i m. h (suc i) (omega arith)))
+    omega (
+      arith,
+      length-append (digits d) (newline ∷ glue (map digits ds ++ ls ∷ [])),
+      digits-short d (omega arith),
+      rows-short ds
+          ls (λ i m. h (suc i) (omega arith)),
+    )
 
 module _ (k : Link) (ds : List ℕ) (g : GoodTable k ds) where
   period-low : k .period < 10 ^ 8
@@ -103,8 +109,16 @@ module _ (k : Link) (ds : List ℕ) (g : GoodTable k ds) where
         pair = rw two-line (record { pair = pair-is k period-low size-low; values = rw (link-is k period-low size-low) link-fine });
         row = λ i l.
             let d = digits-decimal (getD ds i 0) (delay-low i l) in
-            rw (row-line i l) (record { decimal = d; low = rw (digits-value (getD ds i 0) (delay-low i l)) (g .delays i l) }, row-not-last _ d);
-        last = rw end-line (record { last = last-is (length ds) count-low; decimal = count-decimal (length ds) count-low; some-row = g .rows-low; count = count-value (length ds) count-low });
+            rw (row-line i l) (
+              record { decimal = d; low = rw (digits-value (getD ds i 0) (delay-low i l)) (g .delays i l) },
+              row-not-last _ d,
+            );
+        last = rw end-line (record {
+          last = last-is (length ds) count-low;
+          decimal = count-decimal (length ds) count-low;
+          some-row = g .rows-low;
+          count = count-value (length ds) count-low;
+        });
         few = g .rows-high;
       }
 
@@ -116,7 +130,8 @@ module _ (k : Link) (ds : List ℕ) (g : GoodTable k ds) where
   unfolding delaysOf
   delays-are zero h = refl
   delays-are (suc i) h =
-      let v : value (line (textOf k ds) (suc (suc i))) ≡ getD ds i 0 = ap value (row-line i h) ∙ digits-value (getD ds i 0) (delay-low i h) in
+      let v : value (line (textOf k ds) (suc (suc i))) ≡ getD ds i 0 = ap value (row-line i h)
+      ∙ digits-value (getD ds i 0) (delay-low i h) in
       ap (λ (r : List ℕ). r ++ (value (line (textOf k ds) (suc (suc i))) ∷ [])) (delays-are i (omega arith))
       ∙ ap (λ (n : ℕ). take i ds ++ n ∷ []) v ∙ sym (take-suc ds i 0 h)
 
@@ -128,10 +143,18 @@ module _ (k : Link) (ds : List ℕ) (g : GoodTable k ds) where
       (pass _ _ bytesAfter _ (le-ltb (endOf (textOf k ds)) (length (textOf k ds)) (omega (arith, text-end)))
       (pass _ _ badLength 0 (le-ltb room (rowsOf (textOf k ds)) (omega (arith, rows-right (textOf k ds) (length ds) text-right))) fine)))
 
-  text-taken : (old : List ℕ) → accepted (textOf k ds) old ≡ gives (says table 0 0 (k .period) (k .size) (length ds)) (ds ++ drop (length ds) old)
+  text-taken : (old : List ℕ) → accepted (textOf k ds) old ≡ gives (says table 0 0 (k .period) (k .size) (length ds))
+      (ds ++ drop (length ds) old)
   unfolding accepted
   text-taken old =
-      rw (rows-right (textOf k ds) (length ds) text-right, delays-are (length ds) (omega arith), take-length ds, two-line, link-is k period-low size-low)
+      rw (
+        rows-right (textOf k ds) (length ds) text-right,
+        delays-are (length ds) (omega arith),
+        take-length ds,
+        two-line,
+        link-is
+            k period-low size-low,
+      )
 
   -- 6 bytes, at most 18, at most 9 for each row, at most 13
   pub text-short : length (textOf k ds) ≤ maxText
@@ -149,6 +172,7 @@ module _ (k : Link) (ds : List ℕ) (g : GoodTable k ds) where
       )
 
 -- the text of a good table is accepted as that table, wherever the list has room
-pub text-accepted : (k : Link) (ds old : List ℕ) → GoodTable k ds → length ds ≤ length old → reading (textOf k ds) old ≡ gives (says table 0 0 (k .period) (k .size) (length ds)) (ds ++ drop (length ds) old)
+pub text-accepted : (k : Link) (ds old : List ℕ) → GoodTable k ds → length ds ≤ length old
+    → reading (textOf k ds) old ≡ gives (says table 0 0 (k .period) (k .size) (length ds)) (ds ++ drop (length ds) old)
 unfolding reading
 text-accepted k ds old g h = rw (sym (text-fine k ds g (length old) h (text-short k ds g))) (text-taken k ds g old)

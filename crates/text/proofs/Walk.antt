@@ -1,32 +1,31 @@
 -- The lines from the start, one by one: where the code stands at line k, and what it may answer there. Assumes nothing.
 use mathlib.Core.Path.{_≡_, refl, sym, ap, _∙_}
-use mathlib.Core.Bool.{Bool, true, false, not, cond, _&&_}
-use mathlib.Core.List.{List, []}
+use mathlib.Core.Bool.{Bool, true, false, not, _&&_}
+use mathlib.Core.List.{List}
 use mathlib.Core.Logic.{⊎-elim}
 use Prim.Native.Nat.{ℕ, zero, suc, _+_, _-_, _≤_, _<_}
 use native.Mathlib.Omega.{arith}
 use native.Mathlib.Numerals.{add-one}
-use lib.Dec.{ltb, leb}
+use lib.Dec.{ltb}
 use lib.ListN.{length, drop, length-drop}
-use borrow.Author.Tests.{ltb-true, leb-false, lt-ltb, not-false}
-use Rattle.link.specs.Limits.{maxRows, cutLine, badLine, badDelay, badRows}
-use Rattle.link.specs.Refusal.{first, when, andThen}
+use borrow.Author.Tests.{ltb-true, lt-ltb, not-false}
+use Rattle.link.specs.Limits.{maxRows, cutLine}
+use Rattle.link.specs.Refusal.{first}
 use Rattle.link.specs.declared.Judged.{Judged}
 use Rattle.link.specs.declared.Judged.the-variants.{Fine, Fault}
 use Rattle.link.proofs.Bools.{clash, and-parts, lt-or-ge}
 use Rattle.link.proofs.Minimum.{least-is, least-at}
-use Rattle.link.proofs.Faults.{passed, fine, front-hit, front-pass, front-fine}
+use Rattle.link.proofs.Faults.{passed, fine, front-hit, front-pass}
 use Rattle.text.specs.declared.Line.{Line}
 use Rattle.text.specs.declared.Line.the-variants.{More, Last, Wrong}
-use Rattle.text.specs.declared.Text.the-variants.{Whole, Broken}
+use Rattle.text.specs.declared.Text.the-variants.{Whole, Refused as Broken}
 use Rattle.text.specs.Bytes.{newline, seek}
 use Rattle.text.specs.Lines.{nextLine, begin, endedFrom, line, ended}
-use Rattle.text.specs.Decimal.{isDecimal, value}
-use Rattle.text.specs.Faults.{isLast, rowFaults, lastFaults, ownFaults, lineFaults, linesFaults, rowsOf, textFaults, endOf}
-use Rattle.text.specs.Reading.{moreIf, lineIf, lineSays, wholeIf, judging}
-
-never : {A : Type 0} → _≡_ {A = ℕ} 0 1 → A
-never e = absurd (omega arith)
+use Rattle.text.specs.Faults.{isLast, ownFaults, lineFaults, linesFaults, rowsOf, textFaults, endOf}
+use Rattle.text.specs.Reading.{judging}
+use Rattle.text.specs.Steps.{lineIf, lineSays}
+use Rattle.text.proofs.ForLink.{never}
+use Rattle.text.proofs.GoodLines.{row-parts}
 
 -- what a line's answer tells
 wrong-told : (j : Judged) (b : Bool) (next n p : ℕ) → Wrong n p ≡ lineIf j b next → j ≡ Fault n p
@@ -62,10 +61,6 @@ module _ (x : List ℕ) where
   unfolding begin nextLine endedFrom
   ended-low k e = omega (arith, ltb-true (seek newline (drop (begin x k) x)) (length (drop (begin x k) x)) e, length-drop (begin x k) x)
 
-  pub begins-on : (k : ℕ) → begin x k < begin x (suc k)
-  unfolding begin nextLine
-  begins-on k = omega arith
-
   -- nothing is wrong with line k
   pub not-cut : (k : ℕ) → first (lineFaults x k) ≡ Fine → ended x k ≡ true
   unfolding lineFaults
@@ -75,23 +70,17 @@ module _ (x : List ℕ) where
   unfolding lineFaults
   own-fine k e = passed (not (ended x k)) cutLine (begin x k) _ e .1
 
-  -- a row among the first 64
-  row-fine : (n : ℕ) (l : List ℕ) (at : ℕ) → first (rowFaults n l at) ≡ Fine → n < maxRows
-  unfolding rowFaults
-  row-fine n l at e =
-      let a = passed (not (isDecimal l)) badLine at _ e in
-      let b = passed _ badDelay at _ (a .1) in
-      leb-false _ _ (passed (leb maxRows n) badRows at _ (b .1) .0)
-
+  -- a line that is right and not the last is line one, line two or a row among the first 64
   row-low : (k : ℕ) → first (lineFaults x k) ≡ Fine → (ltb 1 k && isLast (line x k)) ≡ false → k < maxRows + 2
   unfolding ownFaults
   row-low zero e f = omega arith
   row-low (suc zero) e f = omega arith
   row-low (suc (suc n)) e f =
       let w : isLast (line x (suc (suc n))) ≡ false = rw (lt-ltb 1 (suc (suc n)) (omega arith)) at f in
-      omega (arith, row-fine n _ _ (rw w at (own-fine (suc (suc n)) e)))
+      omega (arith, row-parts n _ _ (rw w at (own-fine (suc (suc n)) e)) .1)
 
-all-right : (x : List ℕ) (n m : ℕ) → rowsOf x ≡ n → first (linesFaults x (suc (suc (suc n)))) ≡ Fine → m ≡ begin x (suc (suc (suc n))) → Whole n m ≡ judging x
+all-right : (x : List ℕ) (n m : ℕ) → rowsOf x ≡ n → first (linesFaults x (suc (suc (suc n)))) ≡ Fine
+    → m ≡ begin x (suc (suc (suc n))) → Whole n m ≡ judging x
 unfolding judging textFaults endOf
 all-right x n m r g f = rw (r, g, f)
 
@@ -114,13 +103,15 @@ module _ (x : List ℕ) (at k : ℕ) (w : Walked x at k) where
   -- no line before k is the last
   low : k ≤ suc (suc (rowsOf x))
   unfolding rowsOf
-  low = ⊎-elim (λ h. clash (least-is (λ i. isLast (line x (suc (suc i)))) (suc maxRows) .here (omega (arith, w .few))) (w .rows (rowsOf x) h)) (λ h. h) (lt-or-ge (suc (suc (rowsOf x))) k)
+  low = ⊎-elim (λ h. clash (least-is (λ i. isLast (line x (suc (suc i)))) (suc maxRows) .here (omega (arith, w .few)))
+      (w .rows (rowsOf x) h)) (λ h. h) (lt-or-ge (suc (suc (rowsOf x))) k)
 
   pub broken : (n p : ℕ) → Wrong n p ≡ lineSays x at k → Broken n p ≡ judging x
   unfolding judging textFaults linesFaults
   broken n p e =
       let f = wrong-told _ _ _ n p (told _ e) in
-      let g : first (linesFaults x (suc k)) ≡ Fault n p = sym (front-pass (linesFaults x k) (lineFaults x k) (Fault n p) (w .right) (sym f)) in
+      let g : first (linesFaults x (suc k)) ≡ Fault n p = sym
+      (front-pass (linesFaults x k) (lineFaults x k) (Fault n p) (w .right) (sym f)) in
       let t = stays x (suc k) (suc (suc (suc (rowsOf x)))) n p (omega (arith, low)) g in
       rw t
 
@@ -140,7 +131,8 @@ module _ (x : List ℕ) (at k : ℕ) (w : Walked x at k) where
         few = row-low x k (f .0) (f .1);
       })
 
-  whole-at : (n m : ℕ) → k ≡ suc (suc n) → first (lineFaults x k) ≡ Fine → isLast (line x k) ≡ true → m ≡ begin x (suc k) → Whole n m ≡ judging x
+  whole-at : (n m : ℕ) → k ≡ suc (suc n) → first (lineFaults x k) ≡ Fine → isLast (line x k) ≡ true → m ≡ begin x (suc k)
+      → Whole n m ≡ judging x
   unfolding linesFaults rowsOf
   whole-at n m z e l f =
       let r : rowsOf x ≡ n = least-at _ (suc maxRows) n (omega (arith, w .few)) (λ i h. w .rows i (omega arith)) (λ _. rw z at l) in

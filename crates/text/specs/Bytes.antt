@@ -6,10 +6,11 @@ use lib.Dec.{leb, eqb}
 use lib.ListN.{length, getD, take}
 use Rattle.link.specs.Least.{least, some}
 
--- "ends with byte 10"
+-- "Every line .. ends with byte 10."
 abbrev pub newline : ℕ
 newline = 10
 
+-- "one space"
 abbrev pub space : ℕ
 space = 32
 

@@ -2,7 +2,7 @@
 use mathlib.Core.Bool.{Bool, not, _&&_}
 use mathlib.Core.List.{List, [], _∷_}
 use Prim.Native.Nat.{ℕ, _+_, _-_, _*_}
-use lib.Dec.{ltb, leb, eqb}
+use lib.Dec.{ltb, eqb}
 use lib.ListN.{length, getD}
 use Rattle.link.specs.Least.{some}
 use Rattle.link.specs.Refusal.{outside}
@@ -30,6 +30,7 @@ allDigits bs = not (some (λ i. isOther (getD bs i 0)) (length bs))
 unfoldable pub leadingZero : List ℕ → Bool
 leadingZero bs = ltb 1 (length bs) && eqb (getD bs 0 0) naught
 
+-- "decimal, 1 to 8 digits, with no leading zero but `0` itself"
 unfoldable pub isDecimal : List ℕ → Bool
 isDecimal bs = not (outside 1 maxDigits (length bs)) && (not (leadingZero bs) && allDigits bs)
 
@@ -38,5 +39,6 @@ unfoldable pub valueFrom : ℕ → List ℕ → ℕ
 valueFrom n [] = n
 valueFrom n (b ∷ bs) = valueFrom (n * 10 + (b - naught)) bs
 
+-- the value of all of them
 abbrev pub value : List ℕ → ℕ
 value bs = valueFrom 0 bs

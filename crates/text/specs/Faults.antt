@@ -5,7 +5,8 @@ use Prim.Native.Nat.{ℕ, zero, suc}
 use lib.Dec.{ltb, leb, eqb}
 use lib.ListN.{length, take, drop}
 use Rattle.link.specs.Least.{least}
-use Rattle.link.specs.Limits.{maxDelay, maxRows, maxText, longText, badLineOne, cutLine, badLine, badDelay, badRows, badCount, bytesAfter, badLength}
+use Rattle.link.specs.Limits.{maxDelay, maxRows, maxText, longText, badLineOne, cutLine, badLine}
+use Rattle.link.specs.Limits.{badDelay, badRows, badCount, bytesAfter, badLength}
 use Rattle.link.specs.Refusal.{Cause, when, andThen, linkFaults}
 use Rattle.link.specs.declared.Link.{Link}
 use Rattle.text.specs.Bytes.{space, seek, same, begins, titleWord, endWord}
@@ -19,16 +20,19 @@ firstPart l = take (seek space l) l
 unfoldable pub secondPart : List ℕ → List ℕ
 secondPart l = drop (suc (seek space l)) l
 
+-- both are numbers, so there is one space and nothing else
 unfoldable pub isPair : List ℕ → Bool
 isPair l = isDecimal (firstPart l) && isDecimal (secondPart l)
 
+-- the link of line two
 unfoldable pub linkOf : List ℕ → Link
 linkOf l = record { period = value (firstPart l); size = value (secondPart l) }
 
--- "A line that begins with `end` and a space", and the bytes of its number
+-- "A line that begins with `end` and a space"
 unfoldable pub isLast : List ℕ → Bool
 isLast l = begins endWord l
 
+-- and the bytes of its number
 unfoldable pub countPart : List ℕ → List ℕ
 countPart l = drop (length endWord) l
 
@@ -60,7 +64,7 @@ lastFaults n l at =
     ∷ when (not (eqb (value (countPart l)) n)) badCount at
     ∷ []
 
--- line k has the bytes l and begins at `at`
+-- the faults of line k by itself: its bytes are l, and the first is at `at`
 unfoldable pub ownFaults : ℕ → List ℕ → ℕ → List Cause
 ownFaults zero l at = titleFaults l at
 ownFaults (suc zero) l at = pairFaults l at
@@ -75,7 +79,7 @@ unfoldable pub linesFaults : List ℕ → ℕ → List Cause
 linesFaults x zero = []
 linesFaults x (suc k) = andThen (linesFaults x k) (lineFaults x k)
 
--- The rows: the lines behind line two, up to the first that begins with `end` and a space. A 65th is refused, so no more count.
+-- the number of rows: the lines behind line two, up to the first that begins with `end` and a space (a 65th row is refused, so no more count)
 unfoldable pub rowsOf : List ℕ → ℕ
 rowsOf x = least (λ i. isLast (line x (suc (suc i)))) (suc maxRows)
 

@@ -4,4 +4,5 @@ pub mod Decimal
 pub mod Lines
 pub mod Faults
 pub mod Reading
+pub mod Steps
 pub mod Writing

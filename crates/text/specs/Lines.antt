@@ -27,5 +27,6 @@ endedFrom x at = ltb (seek newline (drop at x)) (length (drop at x))
 abbrev pub line : List ℕ → ℕ → List ℕ
 line x k = lineFrom x (begin x k)
 
+-- line k ends
 abbrev pub ended : List ℕ → ℕ → Bool
 ended x k = endedFrom x (begin x k)

@@ -1,24 +1,20 @@
 -- What the reader of a text x answers, and what it leaves in the lent list.
-use mathlib.Core.Bool.{Bool, true, false, not, _&&_}
 use mathlib.Core.List.{List, [], _∷_, _++_}
 use Prim.Native.Nat.{ℕ, zero, suc}
-use lib.Dec.{ltb}
 use lib.ListN.{length, drop}
-use Rattle.link.specs.Limits.{cutLine}
-use Rattle.link.specs.Refusal.{first, when}
+use Rattle.link.specs.Refusal.{first}
 use Rattle.link.specs.declared.Link.{Link}
 use Rattle.link.specs.declared.Judged.{Judged}
 use Rattle.link.specs.declared.Judged.the-variants.{Fine, Fault}
 use Rattle.text.specs.Decimal.{value}
-use Rattle.text.specs.Lines.{nextLine, lineFrom, endedFrom, line}
-use Rattle.text.specs.Faults.{linkOf, isLast, ownFaults, rowsOf, endOf, textFaults, readFaults}
-use Rattle.text.specs.declared.Line.{Line}
-use Rattle.text.specs.declared.Line.the-variants.{More, Last, Wrong}
+use Rattle.text.specs.Lines.{line}
+use Rattle.text.specs.Faults.{linkOf, rowsOf, endOf, textFaults, readFaults}
 use Rattle.text.specs.declared.Text.{Text}
-use Rattle.text.specs.declared.Text.the-variants.{Whole, Broken}
+use Rattle.text.specs.declared.Text.the-variants.{Whole, Refused as Broken}
 use Rattle.text.specs.declared.Read.{Read}
 use Rattle.text.specs.declared.Read.the-variants.{Table, Refused}
 
+-- a table, or a refusal
 pub data Verdict : Type 0 where
   table refusal : Verdict
 
@@ -34,6 +30,7 @@ pub record Said : Type 0 where
 abbrev pub says : Verdict → ℕ → ℕ → ℕ → ℕ → ℕ → Said
 says v n p period size rows = record { verdict = v; number = n; place = p; period = period; size = size; rows = rows }
 
+-- the paper's number and values of each answer
 unfoldable pub said : Read → Said
 said (Table p s n) = says table 0 0 p s n
 said (Refused n p) = says refusal n p 0 0 0
@@ -65,6 +62,7 @@ unfoldable pub accepted : List ℕ → List ℕ → Outcome
 accepted x old =
     gives (says table 0 0 (tableLink x .period) (tableLink x .size) (rowsOf x)) (delaysOf x (rowsOf x) ++ drop (rowsOf x) old)
 
+-- the first fault, or the table where there is none
 unfoldable pub reading : List ℕ → List ℕ → Outcome
 reading x old = unless (first (readFaults x (length old))) old (accepted x old)
 
@@ -75,16 +73,3 @@ wholeIf (Fault n p) rows end = Broken n p
 
 unfoldable pub judging : List ℕ → Text
 judging x = wholeIf (first (textFaults x)) (rowsOf x) (endOf x)
-
--- Line k, from `at` on, by itself: 3, then its own faults; or where the next line begins, and whether this one is the last.
-abbrev pub moreIf : Bool → ℕ → Line
-moreIf true next = Last next
-moreIf false next = More next
-
-abbrev pub lineIf : Judged → Bool → ℕ → Line
-lineIf Fine b next = moreIf b next
-lineIf (Fault n p) b next = Wrong n p
-
-unfoldable pub lineSays : List ℕ → ℕ → ℕ → Line
-lineSays x at k =
-    lineIf (first (when (not (endedFrom x at)) cutLine at ∷ ownFaults k (lineFrom x at) at)) (ltb 1 k && isLast (lineFrom x at)) (nextLine x at)

@@ -1,5 +1,5 @@
 -- The text of a table, as the laws speak of it: no call writes one.
-use mathlib.Core.Bool.{Bool, cond}
+use mathlib.Core.Bool.{cond}
 use mathlib.Core.List.{List, [], _∷_, _++_, map}
 use Prim.Native.Nat.{ℕ, zero, suc, _+_, _/_, _%_}
 use lib.Dec.{ltb}
@@ -13,6 +13,7 @@ unfoldable pub digitsIn : ℕ → ℕ → List ℕ
 digitsIn zero n = []
 digitsIn (suc k) n = cond (ltb n 10) ((naught + n) ∷ []) (digitsIn k (n / 10) ++ ((naught + n % 10) ∷ []))
 
+-- a number's text
 abbrev pub digits : ℕ → List ℕ
 digits n = digitsIn maxDigits n
 
@@ -33,5 +34,6 @@ lastLine n = endWord ++ digits n
 abbrev pub tableLines : Link → List ℕ → List (List ℕ)
 tableLines k ds = titleWord ∷ pairLine k ∷ (map digits ds ++ (lastLine (length ds) ∷ []))
 
+-- the text of the table ds on the link k
 abbrev pub textOf : Link → List ℕ → List ℕ
 textOf k ds = glue (tableLines k ds)

@@ -15,6 +15,12 @@ ghost use mathlib.Core.Bool.{true};
 ghost use Rattle.link.specs.Refusal.{first};
 ghost use Rattle.text.specs.Faults.{isPair, linkOf, isLast, titleFaults, pairFaults, rowFaults, lastFaults, ownFaults};
 
+// Lines are numbered from 0, and the rows begin behind line two.
+pub const FIRST_ROW: usize = 2;
+
+// The length of `end` and a space.
+const END_WORD: usize = 4;
+
 // Line one: 2.
 fn title(line: &[u8], at: usize) -> Judged
     ensures { λ r. ⌜ r ≡ first (titleFaults (now (line .entry)) at) ⌝ }
@@ -108,7 +114,7 @@ fn last(line: &[u8], at: usize, rows: usize) -> Judged
     requires { ⌜ isLast (now line) ≡ true ⌝ }
     ensures { λ r. ⌜ r ≡ first (lastFaults rows (now (line .entry)) at) ⌝ }
 {
-    let count = &line[4..];
+    let count = &line[END_WORD..];
     if !decimal::is_decimal(count) {
         return Judged::Fault {
             number: BAD_LINE,
@@ -141,7 +147,7 @@ pub fn own(line: &[u8], at: usize, k: usize) -> Judged
         return pair(line, at);
     }
     if is_last(line) {
-        return last(line, at, k - 2);
+        return last(line, at, k - FIRST_ROW);
     }
-    row(line, at, k - 2)
+    row(line, at, k - FIRST_ROW)
 }

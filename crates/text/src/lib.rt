@@ -1,7 +1,7 @@
 // The reader of the text table: any bytes end in a table, or in a numbered refusal at its byte.
-pub mod bytes;
-pub mod decimal;
-pub mod judge;
+mod bytes;
+mod decimal;
+mod judge;
 
 use link::Judged;
 use link::limits::BAD_LENGTH;
@@ -18,16 +18,18 @@ ghost use Rattle.link.specs.declared.Judged.the-variants.{Fine};
 ghost use Rattle.text.specs.Bytes.{newline, seek};
 ghost use Rattle.text.specs.Lines.{begin};
 ghost use Rattle.text.specs.Faults.{textFaults, rowsOf};
-ghost use Rattle.text.specs.Reading.{said, reading, accepted, judging, delaysOf, lineSays};
+ghost use Rattle.text.specs.Reading.{said, reading, accepted, judging, delaysOf};
+ghost use Rattle.text.specs.Steps.{lineSays};
 
-// A text with nothing wrong in it: its rows, and the place behind its last line.
-pub enum Text {
-    Whole { rows: usize, end: usize },
-    Broken { number: u32, place: usize },
-}
-
+// What the text says: its table, or the first fault.
 pub enum Read {
     Table { period: u32, size: u32, rows: usize },
+    Refused { number: u32, place: usize },
+}
+
+// The same for a text that may have bytes behind it: its rows, and the place behind its last line.
+pub enum Text {
+    Whole { rows: usize, end: usize },
     Refused { number: u32, place: usize },
 }
 
@@ -36,6 +38,62 @@ enum Line {
     More { next: usize },
     Last { next: usize },
     Wrong { number: u32, place: usize },
+}
+
+// A text and nothing behind it: 1, the faults of its lines, 10, 11; or its table, with the delays in the front of the list.
+pub fn read_table(text: &[u8], delays: &mut [u32]) -> Read
+    ensures { λ r. ⌜ said r ≡ reading (now (text .entry)) (now (delays .entry)) .says ⌝ }
+    ensures { λ r. ⌜ now (delays .exit) ≡ reading (now (text .entry)) (now (delays .entry)) .leaves ⌝ }
+{
+    if text.len() > MAX_TEXT {
+        return Read::Refused {
+            number: LONG_TEXT,
+            place: 0,
+        };
+    }
+    match judge_text(text) {
+        Text::Refused { number, place } => Read::Refused { number, place },
+        Text::Whole { rows, end } => {
+            if end < text.len() {
+                return Read::Refused {
+                    number: BYTES_AFTER,
+                    place: end,
+                };
+            }
+            if delays.len() < rows {
+                return Read::Refused {
+                    number: BAD_LENGTH,
+                    place: 0,
+                };
+            }
+            take_table(text, rows, delays)
+        }
+    }
+}
+
+// The lines from the start, up to the last one or the first fault.
+pub fn judge_text(text: &[u8]) -> Text
+    ensures { λ r. ⌜ r ≡ judging (now (text .entry)) ⌝ }
+{
+    let mut at: usize = 0;
+    let mut k: usize = 0;
+    loop {
+        match judge_line(text, at, k) {
+            Line::Wrong { number, place } => {
+                return Text::Refused { number, place };
+            }
+            Line::Last { next } => {
+                return Text::Whole {
+                    rows: k - judge::FIRST_ROW,
+                    end: next,
+                };
+            }
+            Line::More { next } => {
+                at = next;
+                k += 1;
+            }
+        }
+    }
 }
 
 // Where the line from `at` ends: its byte 10, or the end of the text.
@@ -62,7 +120,7 @@ fn judge_line(text: &[u8], at: usize, k: usize) -> Line
     match judge::own(line, at, k) {
         Judged::Fault { number, place } => Line::Wrong { number, place },
         Judged::Fine => {
-            if k < 2 {
+            if k < judge::FIRST_ROW {
                 return Line::More { next: end + 1 };
             }
             if judge::is_last(line) {
@@ -70,47 +128,6 @@ fn judge_line(text: &[u8], at: usize, k: usize) -> Line
             }
             Line::More { next: end + 1 }
         }
-    }
-}
-
-// The lines from the start, up to the last one or the first fault.
-pub fn judge_text(text: &[u8]) -> Text
-    ensures { λ r. ⌜ r ≡ judging (now (text .entry)) ⌝ }
-{
-    let mut at: usize = 0;
-    let mut k: usize = 0;
-    loop {
-        match judge_line(text, at, k) {
-            Line::Wrong { number, place } => {
-                return Text::Broken { number, place };
-            }
-            Line::Last { next } => {
-                return Text::Whole {
-                    rows: k - 2,
-                    end: next,
-                };
-            }
-            Line::More { next } => {
-                at = next;
-                k += 1;
-            }
-        }
-    }
-}
-
-// The delays of a whole text, whose third line begins at `at`, go into the front of the list.
-fn write_delays(text: &[u8], at: usize, rows: usize, delays: &mut [u32])
-    requires { ⌜ first (textFaults (now text)) ≡ Fine ⌝ }
-    requires { ⌜ (rows ≡ rowsOf (now text)) × (rows ≤ length (now delays)) × (at ≡ begin (now text) 2) ⌝ }
-    ensures { λ _. ⌜ now (delays .exit) ≡ delaysOf (now (text .entry)) rows ++ drop rows (now (delays .entry)) ⌝ }
-{
-    let mut from = at;
-    let mut i = 0;
-    while i < rows {
-        let end = line_end(text, from);
-        delays[i] = decimal::value(&text[from..end]);
-        from = end + 1;
-        i += 1;
     }
 }
 
@@ -132,33 +149,18 @@ fn take_table(text: &[u8], rows: usize, delays: &mut [u32]) -> Read
     }
 }
 
-// A text and nothing behind it: 1, the faults of its lines, 10, 11; or its table, with the delays in the front of the list.
-pub fn read_table(text: &[u8], delays: &mut [u32]) -> Read
-    ensures { λ r. ⌜ said r ≡ reading (now (text .entry)) (now (delays .entry)) .says ⌝ }
-    ensures { λ r. ⌜ now (delays .exit) ≡ reading (now (text .entry)) (now (delays .entry)) .leaves ⌝ }
+// The delays of a whole text, whose third line begins at `at`, go into the front of the list.
+fn write_delays(text: &[u8], at: usize, rows: usize, delays: &mut [u32])
+    requires { ⌜ first (textFaults (now text)) ≡ Fine ⌝ }
+    requires { ⌜ (rows ≡ rowsOf (now text)) × (rows ≤ length (now delays)) × (at ≡ begin (now text) 2) ⌝ }
+    ensures { λ _. ⌜ now (delays .exit) ≡ delaysOf (now (text .entry)) rows ++ drop rows (now (delays .entry)) ⌝ }
 {
-    if text.len() > MAX_TEXT {
-        return Read::Refused {
-            number: LONG_TEXT,
-            place: 0,
-        };
-    }
-    match judge_text(text) {
-        Text::Broken { number, place } => Read::Refused { number, place },
-        Text::Whole { rows, end } => {
-            if end < text.len() {
-                return Read::Refused {
-                    number: BYTES_AFTER,
-                    place: end,
-                };
-            }
-            if delays.len() < rows {
-                return Read::Refused {
-                    number: BAD_LENGTH,
-                    place: 0,
-                };
-            }
-            take_table(text, rows, delays)
-        }
+    let mut from = at;
+    let mut i = 0;
+    while i < rows {
+        let end = line_end(text, from);
+        delays[i] = decimal::value(&text[from..end]);
+        from = end + 1;
+        i += 1;
     }
 }

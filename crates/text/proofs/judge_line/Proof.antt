@@ -9,7 +9,9 @@ line-end-requires : tie.Need-line-end-requires
 line-end-requires c κs = search needs
 
 returns : tie.Need-returns
-returns c = line-cut _ _ _ (c .before .before .before .pre) (rw (c .before .line-end .ensures .0) at (c .if1 .taken))
+returns c =
+    let end = c .before in
+    line-cut _ _ _ (end .before .before .pre) (rw (end .line-end .ensures .0) at (c .if1 .taken))
 
 sub-line : tie.Need-sub-line
 sub-line c = search needs
@@ -33,8 +35,11 @@ add-t15 : tie.Need-add-t15
 add-t15 c = search needs
 
 returns-2 : tie.Need-returns-2
-returns-2 c = line-answer _ _ _ _ _ _ (c .before .before .before .before .before .before .line-end .ensures .0) (c .before .before .before .before .before .if1 .left) (sym (c .before .enum-told .given .1) ∙ c .before .before .before .own .ensures)
-    (early _ _ (c .if2 .taken))
+returns-2 c =
+    let own = c .before .before .before in
+    let whole = own .before .before in
+    line-answer _ _ _ _ _ _ (whole .before .line-end .ensures .0) (whole .if1 .left)
+    (sym (c .before .enum-told .given .1) ∙ own .own .ensures) (early _ _ (c .if2 .taken))
 
 is-last-requires : tie.Need-is-last-requires
 is-last-requires c κs = search needs
@@ -43,18 +48,31 @@ add-t17 : tie.Need-add-t17
 add-t17 c = search needs
 
 returns-3 : tie.Need-returns-3
-returns-3 c = line-answer _ _ _ _ _ _ (c .before .before .before .before .before .before .before .before .line-end .ensures .0) (c .before .before .before .before .before .before .before .if1 .left) (sym (c .before .before .before .enum-told .given .1) ∙ c .before .before .before .before .before .own .ensures)
+returns-3 c =
+    let fine = c .before .before .before in
+    let own = fine .before .before in
+    let whole = own .before .before in
+    line-answer _ _ _ _ _ _ (whole .before .line-end .ensures .0) (whole .if1 .left)
+    (sym (fine .enum-told .given .1) ∙ own .own .ensures)
     (later _ _ _ (c .before .before .if2 .left) (sym (c .before .is-last .ensures) ∙ c .if3 .taken))
 
 add-t18 : tie.Need-add-t18
 add-t18 c = search needs
 
 returns-4 : tie.Need-returns-4
-returns-4 c = line-answer _ _ _ _ _ _ (c .before .before .before .before .before .before .line-end .ensures .0) (c .before .before .before .before .before .if1 .left) (sym (c .before .number .given .1) ∙ c .before .before .before .own .ensures)
-    (refl)
+returns-4 c =
+    let own = c .before .before .before in
+    let whole = own .before .before in
+    line-answer _ _ _ _ _ _ (whole .before .line-end .ensures .0) (whole .if1 .left)
+    (sym (c .before .number .given .1) ∙ own .own .ensures) refl
 
 returns-5 : tie.Need-returns-5
-returns-5 c = line-answer _ _ _ _ _ _ (c .before .before .before .before .before .before .before .before .line-end .ensures .0) (c .before .before .before .before .before .before .before .if1 .left) (sym (c .before .before .before .enum-told .given .1) ∙ c .before .before .before .before .before .own .ensures)
+returns-5 c =
+    let fine = c .before .before .before in
+    let own = fine .before .before in
+    let whole = own .before .before in
+    line-answer _ _ _ _ _ _ (whole .before .line-end .ensures .0) (whole .if1 .left)
+    (sym (fine .enum-told .given .1) ∙ own .own .ensures)
     (later _ _ _ (c .before .before .if2 .left) (sym (c .before .is-last .ensures) ∙ c .if3 .left))
 
 pub judge-line-spec : {M : Type 1} → statement M

@@ -1,6 +1,6 @@
 -- Invariant: the lines before k are right, none of them is the last, and line k begins at `at`. At most 66 lines come before the last.
-use mathlib.Core.Path.{_≡_, sym, _∙_}
-use Prim.Native.Nat.{ℕ, _+_, _-_}
+use mathlib.Core.Path.{sym, _∙_}
+use Prim.Native.Nat.{_+_, _-_}
 use native.Mathlib.Omega.{arith}
 use Rattle.link.specs.Limits.{maxRows}
 use Rattle.text.proofs.Walk.{Walked, start, broken, next, whole}
@@ -24,16 +24,22 @@ enum-known-number : tie.Need-enum-known-number Inv-loop μ-loop
 enum-known-number c = search needs
 
 returns : tie.Need-returns Inv-loop μ-loop
-returns c = broken _ _ _ (c .before .before .before .before .loop .inv) _ _ (sym (c .before .number .given .1) ∙ c .before .before .before .judge-line .ensures)
+returns c =
+    let judged = c .before .before .before in
+    broken _ _ _ (judged .before .loop .inv) _ _ (sym (c .before .number .given .1) ∙ judged .judge-line .ensures)
 
 enum-known-next : tie.Need-enum-known-next Inv-loop μ-loop
 enum-known-next c = search needs
 
 sub-t9 : tie.Need-sub-t9 Inv-loop μ-loop
-sub-t9 c = whole _ _ _ (c .before .before .before .before .loop .inv) _ (sym (c .before .next .given .1) ∙ c .before .before .before .judge-line .ensures) .0
+sub-t9 c =
+    let judged = c .before .before .before in
+    whole _ _ _ (judged .before .loop .inv) _ (sym (c .before .next .given .1) ∙ judged .judge-line .ensures) .0
 
 returns-2 : tie.Need-returns-2 Inv-loop μ-loop
-returns-2 c = whole _ _ _ (c .before .before .before .before .loop .inv) _ (sym (c .before .next .given .1) ∙ c .before .before .before .judge-line .ensures) .1
+returns-2 c =
+    let judged = c .before .before .before in
+    whole _ _ _ (judged .before .loop .inv) _ (sym (c .before .next .given .1) ∙ judged .judge-line .ensures) .1
 
 enum-known-next-2 : tie.Need-enum-known-next-2 Inv-loop μ-loop
 enum-known-next-2 c = search needs
@@ -45,7 +51,9 @@ loop-less : tie.Need-loop-less Inv-loop μ-loop
 loop-less c = omega (arith, c .before .before .before .before .loop .inv .few)
 
 loop-again : tie.Need-loop-again Inv-loop μ-loop
-loop-again c = next _ _ _ (c .before .before .before .before .loop .inv) _ (sym (c .before .next2 .given .1) ∙ c .before .before .before .judge-line .ensures)
+loop-again c =
+    let judged = c .before .before .before in
+    next _ _ _ (judged .before .loop .inv) _ (sym (c .before .next2 .given .1) ∙ judged .judge-line .ensures)
 
 pub judge-text-spec : {M : Type 1} → statement M
 judge-text-spec =

@@ -1,10 +1,10 @@
 use mathlib.Core.List.{List}
 use lib.ListN.{length, length-drop}
 -- What is found from `at` on is counted from the start.
-use mathlib.Core.Path.{_≡_, refl, sym, ap, _∙_}
+use mathlib.Core.Path.{ap}
 use Prim.Native.Nat.{ℕ, _+_}
 use native.Mathlib.Omega.{arith}
-use Rattle.text.proofs.Parts.{tail-part}
+use Rattle.text.proofs.ForLink.{tail-part}
 use borrow.Author.Needs.{needs}
 use Rattle.text.proofs.line_end.Statement.{statement}
 use Rattle.text.proofs.line_end.Tie as tie
@@ -25,9 +25,13 @@ add-result : tie.Need-add-result
 add-result c = search needs
 
 returns : tie.Need-returns
-returns c = let w = c .before .before .before .args in let part = tail-part (w .text .now) (w .at) in
-    let l = c .seek .ensures .1 in
-    (rw part at (ap (λ (n : ℕ). w .at + n) (c .seek .ensures .0)), omega (arith, ap (λ (l : List ℕ). length l) part, length-drop (w .at) (w .text .now), l, c .before .before .before .pre))
+returns c =
+    let start = c .before .before .before in
+    let w = start .args in
+    let part = tail-part (w .text .now) (w .at) in (
+      rw part at (ap (λ (n : ℕ). w .at + n) (c .seek .ensures .0)),
+      omega (arith, ap (λ (l : List ℕ). length l) part, length-drop (w .at) (w .text .now), c .seek .ensures .1, start .pre),
+    )
 
 pub line-end-spec : {M : Type 1} → statement M
 line-end-spec =

@@ -18,24 +18,39 @@ enum-known-rows : tie.Need-enum-known-rows
 enum-known-rows c = search needs
 
 returns-2 : tie.Need-returns-2
-returns-2 c = after _ _ (c .before .before .before .before .before .if1 .left) _ _ (sym (c .before .before .rows .given .1) ∙ c .before .before .before .before .judge-text .ensures) (c .if2 .taken)
+returns-2 c =
+    let judged = c .before .before .before .before in
+    after _ _ (judged .before .if1 .left) _ _ (sym (c .before .before .rows .given .1) ∙ judged .judge-text .ensures) (c .if2 .taken)
 
 returns-3 : tie.Need-returns-3
-returns-3 c = short _ _ (c .before .before .before .before .before .before .if1 .left) _ _ (sym (c .before .before .before .rows .given .1) ∙ c .before .before .before .before .before .judge-text .ensures) (c .before .if2 .left) (c .if3 .taken)
+returns-3 c =
+    let whole = c .before .before .before in
+    let judged = whole .before .before in
+    short _ _ (judged .before .if1 .left) _ _ (sym (whole .rows .given .1) ∙ judged .judge-text .ensures)
+    (c .before .if2 .left) (c .if3 .taken)
 
 take-table-requires : tie.Need-take-table-requires
-take-table-requires c κs = let f = whole-told _ _ _ (sym (c .before .before .before .before .rows .given .1) ∙ c .before .before .before .before .before .before .judge-text .ensures) in
+take-table-requires c κs =
+    let whole = c .before .before .before .before in
+    let f = whole-told _ _ _ (sym (whole .rows .given .1) ∙ whole .before .before .judge-text .ensures) in
     (f .0, (f .1, c .before .if3 .left))
 
 returns-4 : tie.Need-returns-4
-returns-4 c = broken _ _ (c .before .before .before .before .if1 .left) _ _ (sym (c .before .number .given .1) ∙ c .before .before .before .judge-text .ensures)
+returns-4 c =
+    let judged = c .before .before .before in
+    broken _ _ (judged .before .if1 .left) _ _ (sym (c .before .number .given .1) ∙ judged .judge-text .ensures)
 
 same-length : tie.Need-same-length
 same-length c = search needs
 
 returns-5 : tie.Need-returns-5
-returns-5 c = good _ _ (c .before .before .before .before .before .before .before .before .before .before .if1 .left) _ _ (sym (c .before .before .before .before .before .before .before .rows .given .1) ∙ c .before .before .before .before .before .before .before .before .before .judge-text .ensures) (c .before .before .before .before .before .if2 .left) (c .before .before .before .before .if3 .left) _ _
-    (c .before .before .take-table .ensures .0) (c .before .before .take-table .ensures .1)
+returns-5 c =
+    let taken = c .before .before in
+    let room = taken .before .before in
+    let whole = room .before .before .before in
+    let judged = whole .before .before in
+    good _ _ (judged .before .if1 .left) _ _ (sym (whole .rows .given .1) ∙ judged .judge-text .ensures)
+    (room .before .if2 .left) (room .if3 .left) _ _ (taken .take-table .ensures .0) (taken .take-table .ensures .1)
 
 pub read-table-spec : {M : Type 1} → statement M
 read-table-spec =

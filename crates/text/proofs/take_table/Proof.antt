@@ -1,7 +1,7 @@
 -- Line two has the period and the size, and the lines behind it the delays.
 use mathlib.Core.Path.{ap, _∙_}
 use Rattle.text.specs.Faults.{linkOf}
-use Rattle.text.proofs.Head.{second-low, line-two, third, pair-there}
+use Rattle.text.proofs.Values.{second-low, line-two, third, pair-there}
 use Rattle.text.proofs.Answers.{taken}
 use borrow.Author.Needs.{needs}
 use Rattle.text.proofs.take_table.Statement.{statement}
@@ -26,22 +26,31 @@ part-link-of-end : tie.Need-part-link-of-end
 part-link-of-end c = search needs
 
 link-of-requires : tie.Need-link-of-requires
-link-of-requires c κs = pair-there _ (c .before .before .before .before .before .pre .0) _ (c .before .before .line-end .ensures .0) _ (c .before .line-end2 .ensures .0)
+link-of-requires c κs =
+    let one = c .before .before in
+    pair-there _ (one .before .before .before .pre .0) _ (one .line-end .ensures .0) _ (c .before .line-end2 .ensures .0)
 
 add-write-delays : tie.Need-add-write-delays
 add-write-delays c = search needs
 
 write-delays-requires : tie.Need-write-delays-requires
-write-delays-requires c κs = let w = c .before .before .before .before .before .before .before .pre in
-    (w .0, (w .1 .0, w .1 .1, third _ (w .0) _ (c .before .before .before .before .line-end .ensures .0) _ (c .before .before .before .line-end2 .ensures .0)))
+write-delays-requires c κs =
+    let two = c .before .before .before in
+    let one = two .before in
+    let w = one .before .before .before .pre in
+    (w .0, (w .1 .0, w .1 .1, third _ (w .0) _ (one .line-end .ensures .0) _ (two .line-end2 .ensures .0)))
 
 same-length : tie.Need-same-length
 same-length c = search needs
 
 returns : tie.Need-returns
-returns c = let w = c .before .before .before .before .before .before .before .before .before .before .pre in
-    let two = line-two _ (w .0) _ (c .before .before .before .before .before .before .before .line-end .ensures .0) _ (c .before .before .before .before .before .before .line-end2 .ensures .0) in
-    taken _ _ _ _ _ (c .before .before .before .before .link-of .ensures ∙ ap linkOf two) (w .1 .0) (c .before .before .write-delays .ensures)
+returns c =
+    let link = c .before .before .before .before in
+    let two = link .before .before in
+    let one = two .before in
+    let w = one .before .before .before .pre in
+    let pair = line-two _ (w .0) _ (one .line-end .ensures .0) _ (two .line-end2 .ensures .0) in
+    taken _ _ _ _ _ (link .link-of .ensures ∙ ap linkOf pair) (w .1 .0) (c .before .before .write-delays .ensures)
 
 pub take-table-spec : {M : Type 1} → statement M
 take-table-spec =

@@ -1,8 +1,8 @@
 -- Invariant: the delays of the first i rows are written, and the next line begins at `from`.
 use mathlib.Core.Path.{_≡_, _∙_}
-use Prim.Native.Nat.{ℕ, _-_}
+use Prim.Native.Nat.{_-_}
 use native.Mathlib.Omega.{arith}
-use Rattle.text.proofs.Delays.{Written, none-yet, row-decimal, written}
+use Rattle.text.proofs.Values.{Written, none-yet, row-decimal, written}
 use borrow.Author.Needs.{needs}
 use Rattle.text.proofs.write_delays.Statement.{statement}
 use Rattle.text.proofs.write_delays.Tie as tie
@@ -29,14 +29,19 @@ part-value-end : tie.Need-part-value-end Inv-loop μ-loop
 part-value-end c = search needs
 
 value-requires : tie.Need-value-requires Inv-loop μ-loop
-value-requires c κs = let w = c .before .before .before .before .before .before .pre in
-    row-decimal _ _ _ (w .0) (w .1 .0) (w .1 .1) _ _ _ (c .before .before .before .loop .inv) (c .before .before .loop-test .taken) _ (c .before .line-end .ensures .0)
+value-requires c κs =
+    let end = c .before in
+    let loop = end .before .before in
+    let w = loop .before .before .before .pre in
+    row-decimal _ _ _ (w .0) (w .1 .0) (w .1 .1) _ _ _ (loop .loop .inv) (end .before .loop-test .taken) _ (end .line-end .ensures .0)
 
 mul-delays : tie.Need-mul-delays Inv-loop μ-loop
 mul-delays c = search needs
 
 slice-write-delays : tie.Need-slice-write-delays Inv-loop μ-loop
-slice-write-delays c = omega (arith, c .before .before .before .before .loop .inv .same-length, c .before .before .before .before .before .before .before .pre .1 .1)
+slice-write-delays c =
+    let loop = c .before .before .before .before in
+    omega (arith, loop .loop .inv .same-length, loop .before .before .before .pre .1 .1)
 
 add-from : tie.Need-add-from Inv-loop μ-loop
 add-from c = search needs
@@ -48,8 +53,12 @@ loop-less : tie.Need-loop-less Inv-loop μ-loop
 loop-less c = omega arith
 
 loop-again : tie.Need-loop-again Inv-loop μ-loop
-loop-again c = let w = c .before .before .before .before .before .before .before .pre in
-    written _ _ _ (w .0) (w .1 .0) (w .1 .1) _ _ _ (c .before .before .before .before .loop .inv) (c .before .before .before .loop-test .taken) _ (c .before .before .line-end .ensures .0) _ (c .value .ensures)
+loop-again c =
+    let end = c .before .before in
+    let loop = end .before .before in
+    let w = loop .before .before .before .pre in
+    written _ _ _ (w .0) (w .1 .0) (w .1 .1) _ _ _ (loop .loop .inv) (end .before .loop-test .taken) _
+    (end .line-end .ensures .0) _ (c .value .ensures)
 
 same-length : tie.Need-same-length Inv-loop μ-loop
 same-length c = c .before .loop .inv .same-length

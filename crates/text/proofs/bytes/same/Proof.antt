@@ -1,6 +1,6 @@
 -- Invariant: the two agree at each place below i.
-use mathlib.Core.Path.{_≡_, sym, ap}
-use mathlib.Core.Bool.{Bool, true, false, not, and-false}
+use mathlib.Core.Path.{_≡_, ap}
+use mathlib.Core.Bool.{Bool, false, not, and-false}
 use Prim.Native.Nat.{ℕ, _-_, _≤_, _<_}
 use native.Mathlib.Omega.{arith}
 use lib.Dec.{eqb}
@@ -34,8 +34,11 @@ shared-slice-read-if2-2 c = search needs
 
 returns-2 : tie.Need-returns-2 Inv-loop μ-loop
 unfolding same
-returns-2 c = let w = c .before .before .before .before .before .before in
-    let s = some-at (λ i. not (eqb (getD (w .args .a .now) i 0) (getD (w .args .b .now) i 0))) (length (w .args .a .now)) (c .before .before .before .before .loop .i) (omega arith) (ap not (ne-eqb _ _ (c .if2 .taken))) in
+returns-2 c =
+    let loop = c .before .before .before .before in
+    let w = loop .before .before .args in
+    let differ : ℕ → Bool = λ i. not (eqb (getD (w .a .now) i 0) (getD (w .b .now) i 0)) in
+    let s = some-at differ (length (w .a .now)) (loop .loop .i) (omega arith) (ap not (ne-eqb _ _ (c .if2 .taken))) in
     rw (s, and-false)
 
 add-i : tie.Need-add-i Inv-loop μ-loop
@@ -49,9 +52,12 @@ loop-again c = (omega arith, below-more _ _ (c .before .before .before .before .
 
 returns-3 : tie.Need-returns-3 Inv-loop μ-loop
 unfolding same
-returns-3 c = let w = c .before .before .before in
-    let s = some-none (λ i. not (eqb (getD (w .args .a .now) i 0) (getD (w .args .b .now) i 0))) (length (w .args .a .now)) (λ k l. c .before .loop .inv .1 k (omega arith)) in
-    rw (eq-eqb _ _ (c .before .before .if1 .left), s)
+returns-3 c =
+    let loop = c .before in
+    let w = loop .before .before .args in
+    let differ : ℕ → Bool = λ i. not (eqb (getD (w .a .now) i 0) (getD (w .b .now) i 0)) in
+    let s = some-none differ (length (w .a .now)) (λ k l. loop .loop .inv .1 k (omega arith)) in
+    rw (eq-eqb _ _ (loop .before .if1 .left), s)
 
 pub same-spec : {M : Type 1} → statement M
 same-spec =

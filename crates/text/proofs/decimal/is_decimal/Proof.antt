@@ -21,16 +21,20 @@ leading-zero-requires c κs = search needs
 
 returns-3 : tie.Need-returns-3
 unfolding isDecimal
-returns-3 c = rw (inside 1 maxDigits (length (c .before .before .before .before .before .args .bytes .now)) (omega arith) (omega arith), sym (c .before .leading-zero .ensures) ∙ c .if3 .taken)
+returns-3 c =
+    let bs = c .before .before .before .before .before .args .bytes .now in
+    let n = inside 1 maxDigits (length bs) (omega arith) (omega arith) in
+    rw (n, sym (c .before .leading-zero .ensures) ∙ c .if3 .taken)
 
 all-digits-requires : tie.Need-all-digits-requires
 all-digits-requires c κs = search needs
 
 returns-4 : tie.Need-returns-4
 unfolding isDecimal
-returns-4 c = let bs = c .before .before .before .before .before .before .args .bytes .now in
-    rw (inside 1 maxDigits (length bs) (omega arith) (omega arith), sym (c .before .before .leading-zero .ensures) ∙ c .before .if3 .left)
-    (c .all-digits .ensures)
+returns-4 c =
+    let bs = c .before .before .before .before .before .before .args .bytes .now in
+    let n = inside 1 maxDigits (length bs) (omega arith) (omega arith) in
+    rw (n, sym (c .before .before .leading-zero .ensures) ∙ c .before .if3 .left) (c .all-digits .ensures)
 
 pub is-decimal-spec : {M : Type 1} → statement M
 is-decimal-spec =

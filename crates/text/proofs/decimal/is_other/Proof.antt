@@ -4,7 +4,6 @@ use borrow.Author.Tests.{le-ltb}
 use Rattle.link.specs.Refusal.{outside}
 use Rattle.link.proofs.Faults.{below}
 use Rattle.text.specs.Decimal.{isOther}
-use borrow.Author.Needs.{needs}
 use Rattle.text.proofs.decimal.is_other.Statement.{statement}
 use Rattle.text.proofs.decimal.is_other.Tie as tie
 

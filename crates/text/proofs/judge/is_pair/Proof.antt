@@ -24,7 +24,9 @@ is-decimal-requires c κs = search needs
 
 returns-2 : tie.Need-returns-2
 unfolding isPair
-returns-2 c = let e = ap isDecimal (sym (first-part _ _ (c .before .before .before .before .seek .ensures .0))) ∙ sym (c .before .is-decimal .ensures) ∙ not-true _ (c .if2 .taken) in
+returns-2 c =
+    let k = c .before .before .before .before .seek .ensures .0 in
+    let e = ap isDecimal (sym (first-part _ _ k)) ∙ sym (c .before .is-decimal .ensures) ∙ not-true _ (c .if2 .taken) in
     rw e
 
 add-from : tie.Need-add-from
@@ -44,8 +46,10 @@ is-decimal-requires-2 c κs = search needs
 
 returns-3 : tie.Need-returns-3
 unfolding isPair
-returns-3 c = let k = c .before .before .before .before .before .before .seek .ensures .0 in
-    let e = ap isDecimal (sym (first-part _ _ k)) ∙ sym (c .before .before .before .is-decimal .ensures) ∙ not-false _ (c .before .before .if2 .left) in
+returns-3 c =
+    let two = c .before .before in
+    let k = two .before .before .before .before .seek .ensures .0 in
+    let e = ap isDecimal (sym (first-part _ _ k)) ∙ sym (two .before .is-decimal .ensures) ∙ not-false _ (two .if2 .left) in
     rw (e, ← second-part _ _ k) (c .is-decimal2 .ensures)
 
 pub is-pair-spec : {M : Type 1} → statement M

@@ -1,5 +1,5 @@
 -- The parts before and behind the first space.
-use mathlib.Core.Path.{_≡_, sym, ap, _∙_}
+use mathlib.Core.Path.{sym, ap, _∙_}
 use native.Mathlib.Omega.{arith}
 use lib.Seq.{length-take-le}
 use Rattle.text.specs.Decimal.{isDecimal, value}
@@ -15,22 +15,30 @@ slice-aggregate-value : tie.Need-slice-aggregate-value
 slice-aggregate-value c = sym (length-take-le _ _ (omega (arith, c .before .seek .ensures .1)))
 
 value-requires : tie.Need-value-requires
-value-requires c κs = ap isDecimal (first-part _ _ (c .before .seek .ensures .0)) ∙ pair-parts _ (c .before .before .before .pre) .0
+value-requires c κs =
+    let k = c .before in
+    ap isDecimal (first-part _ _ (k .seek .ensures .0)) ∙ pair-parts _ (k .before .before .pre) .0
 
 add-from : tie.Need-add-from
 add-from c = search needs
 
 sub-value : tie.Need-sub-value
-sub-value c = next-low _ _ (c .before .before .seek .ensures .0) (pair-parts _ (c .before .before .before .before .pre) .2)
+sub-value c =
+    let k = c .before .before in
+    next-low _ _ (k .seek .ensures .0) (pair-parts _ (k .before .before .pre) .2)
 
 part-value-start : tie.Need-part-value-start
-part-value-start c = next-low _ _ (c .before .before .seek .ensures .0) (pair-parts _ (c .before .before .before .before .pre) .2)
+part-value-start c =
+    let k = c .before .before in
+    next-low _ _ (k .seek .ensures .0) (pair-parts _ (k .before .before .pre) .2)
 
 part-value-end : tie.Need-part-value-end
 part-value-end c = search needs
 
 value-requires-2 : tie.Need-value-requires-2
-value-requires-2 c κs = ap isDecimal (second-part _ _ (c .before .before .before .seek .ensures .0)) ∙ pair-parts _ (c .before .before .before .before .before .pre) .1
+value-requires-2 c κs =
+    let k = c .before .before .before in
+    ap isDecimal (second-part _ _ (k .seek .ensures .0)) ∙ pair-parts _ (k .before .before .pre) .1
 
 returns : tie.Need-returns
 returns c = let k = c .before .before .before .before .seek .ensures .0 in

@@ -1,7 +1,7 @@
 -- Line one, line two, the last line, or a row.
 use mathlib.Core.Path.{sym, ap, _∙_}
 use Rattle.link.specs.Refusal.{first}
-use Rattle.text.proofs.LineForms.{own-title, own-pair, own-last, own-row}
+use Rattle.text.proofs.LineForms.{own-title, own-pair, own-other}
 use borrow.Author.Needs.{needs}
 use Rattle.text.proofs.judge.own.Statement.{statement}
 use Rattle.text.proofs.judge.own.Tie as tie
@@ -28,7 +28,11 @@ last-requires : tie.Need-last-requires
 last-requires c κs = sym (c .before .is-last .ensures) ∙ c .if3 .taken
 
 returns-3 : tie.Need-returns-3
-returns-3 c = c .last .ensures ∙ ap first (sym (own-last _ (c .before .before .before .before .if1 .left) (c .before .before .before .if2 .left) _ _ (sym (c .before .before .is-last .ensures) ∙ c .before .if3 .taken)))
+returns-3 c =
+    let last = c .before .before in
+    let two = last .before in
+    c .last .ensures
+    ∙ ap first (sym (own-other _ (two .before .if1 .left) (two .if2 .left) _ _ _ (sym (last .is-last .ensures) ∙ c .before .if3 .taken)))
 
 sub-row : tie.Need-sub-row
 sub-row c = search needs
@@ -37,7 +41,11 @@ row-requires : tie.Need-row-requires
 row-requires c κs = search needs
 
 returns-4 : tie.Need-returns-4
-returns-4 c = c .row .ensures ∙ ap first (sym (own-row _ (c .before .before .before .before .if1 .left) (c .before .before .before .if2 .left) _ _ (sym (c .before .before .is-last .ensures) ∙ c .before .if3 .left)))
+returns-4 c =
+    let last = c .before .before in
+    let two = last .before in
+    c .row .ensures
+    ∙ ap first (sym (own-other _ (two .before .if1 .left) (two .if2 .left) _ _ _ (sym (last .is-last .ensures) ∙ c .before .if3 .left)))
 
 pub own-spec : {M : Type 1} → statement M
 own-spec =

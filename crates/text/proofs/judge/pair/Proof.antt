@@ -3,11 +3,10 @@ use mathlib.Core.Path.{sym, ap, _∙_}
 use mathlib.Core.Bool.{not}
 use borrow.Author.Tests.{not-false}
 use Rattle.link.specs.declared.Link.{Link}
-use Rattle.link.specs.declared.Judged.{Judged}
 use Rattle.link.specs.Refusal.{first, linkFaults}
 use Rattle.link.proofs.Faults.{hit}
 use Rattle.text.specs.Faults.{pairFaults}
-use Rattle.text.proofs.LineForms.{moved, pair-judged}
+use Rattle.text.proofs.LineForms.{pair-judged}
 use borrow.Author.Needs.{needs}
 use Rattle.text.proofs.judge.pair.Statement.{statement}
 use Rattle.text.proofs.judge.pair.Tie as tie
@@ -32,12 +31,20 @@ enum-told : tie.Need-enum-told
 enum-told c = search needs
 
 returns-2 : tie.Need-returns-2
-returns-2 c = pair-judged _ _ _ (sym (c .before .before .before .before .before .before .is-pair .ensures) ∙ not-false _ (c .before .before .before .before .before .if1 .left))
-    (sym (c .before .number .given .1) ∙ c .before .before .before .link-values .ensures ∙ ap (λ (k : Link). first (linkFaults k)) (c .before .before .before .before .link-of .ensures))
+returns-2 c =
+    let values = c .before .before .before in
+    let two = values .before .before in
+    pair-judged _ _ _ (sym (two .before .is-pair .ensures) ∙ not-false _ (two .if1 .left))
+    (sym (c .before .number .given .1) ∙ values .link-values .ensures
+    ∙ ap (λ (k : Link). first (linkFaults k)) (values .before .link-of .ensures))
 
 returns-3 : tie.Need-returns-3
-returns-3 c = pair-judged _ _ _ (sym (c .before .before .before .before .before .is-pair .ensures) ∙ not-false _ (c .before .before .before .before .if1 .left))
-    (sym (c .enum-told .given .1) ∙ c .before .before .link-values .ensures ∙ ap (λ (k : Link). first (linkFaults k)) (c .before .before .before .link-of .ensures))
+returns-3 c =
+    let values = c .before .before in
+    let two = values .before .before in
+    pair-judged _ _ _ (sym (two .before .is-pair .ensures) ∙ not-false _ (two .if1 .left))
+    (sym (c .enum-told .given .1) ∙ values .link-values .ensures
+    ∙ ap (λ (k : Link). first (linkFaults k)) (values .before .link-of .ensures))
 
 pub pair-spec : {M : Type 1} → statement M
 pair-spec =

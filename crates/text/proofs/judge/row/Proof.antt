@@ -23,19 +23,27 @@ value-requires c κs = sym (c .before .is-decimal .ensures) ∙ not-false _ (c .
 
 returns-2 : tie.Need-returns-2
 unfolding rowFaults
-returns-2 c = pass _ _ _ _ (ap not (sym (c .before .before .before .is-decimal .ensures)) ∙ c .before .before .if1 .left)
+returns-2 c =
+    let form = c .before .before in
+    pass _ _ _ _ (ap not (sym (form .before .is-decimal .ensures)) ∙ form .if1 .left)
     (hit _ _ _ _ (ap (λ (v : ℕ). ltb maxDelay v) (sym (c .before .value .ensures)) ∙ lt-ltb _ _ (c .if2 .taken)))
 
 returns-3 : tie.Need-returns-3
 unfolding rowFaults
-returns-3 c = pass _ _ _ _ (ap not (sym (c .before .before .before .before .is-decimal .ensures)) ∙ c .before .before .before .if1 .left)
-    (pass _ _ _ _ (ap (λ (v : ℕ). ltb maxDelay v) (sym (c .before .before .value .ensures)) ∙ le-ltb _ _ (c .before .if2 .left))
+returns-3 c =
+    let value = c .before .before in
+    let form = value .before in
+    pass _ _ _ _ (ap not (sym (form .before .is-decimal .ensures)) ∙ form .if1 .left)
+    (pass _ _ _ _ (ap (λ (v : ℕ). ltb maxDelay v) (sym (value .value .ensures)) ∙ le-ltb _ _ (c .before .if2 .left))
     (hit _ _ _ _ (le-leb _ _ (c .if3 .taken))))
 
 returns-4 : tie.Need-returns-4
 unfolding rowFaults
-returns-4 c = pass _ _ _ _ (ap not (sym (c .before .before .before .before .is-decimal .ensures)) ∙ c .before .before .before .if1 .left)
-    (pass _ _ _ _ (ap (λ (v : ℕ). ltb maxDelay v) (sym (c .before .before .value .ensures)) ∙ le-ltb _ _ (c .before .if2 .left))
+returns-4 c =
+    let value = c .before .before in
+    let form = value .before in
+    pass _ _ _ _ (ap not (sym (form .before .is-decimal .ensures)) ∙ form .if1 .left)
+    (pass _ _ _ _ (ap (λ (v : ℕ). ltb maxDelay v) (sym (value .value .ensures)) ∙ le-ltb _ _ (c .before .if2 .left))
     (pass _ _ _ _ (lt-leb _ _ (c .if3 .left)) fine))
 
 pub row-spec : {M : Type 1} → statement M

@@ -1,29 +1,48 @@
--- The delays of a text as they are written, one row a turn. Assumes nothing.
-use mathlib.Core.Path.{_≡_, refl, sym, ap, _∙_}
-use mathlib.Core.Bool.{Bool, true}
-use mathlib.Core.List.{List, [], _∷_, _++_, append-assoc}
-use Prim.Native.Nat.{ℕ, zero, suc, _+_, _-_, _≤_, _<_}
+-- Taking the values out of a text with nothing wrong: line two, and then the delays, one row a turn. Assumes nothing.
+use mathlib.Core.Path.{_≡_, refl, ap, _∙_}
+use mathlib.Core.Bool.{true}
+use mathlib.Core.List.{List, _++_, append-assoc}
+use Prim.Native.Nat.{ℕ, _+_, _-_, _≤_, zero, suc, _<_}
 use native.Mathlib.Omega.{arith}
-use native.Mathlib.Numerals.{add-one}
-use lib.ListN.{length, getD, set, take, drop, length-append, length-set}
-use lib.Seq.{drop-cons, set-at}
+use lib.ListN.{length, take, drop, getD, set, length-append, length-set}
 use Rattle.link.specs.Refusal.{first}
 use Rattle.link.specs.declared.Judged.the-variants.{Fine}
 use Rattle.text.specs.Bytes.{newline, seek}
-use Rattle.text.specs.Decimal.{isDecimal, value}
-use Rattle.text.specs.Lines.{nextLine, begin, line}
-use Rattle.text.specs.Faults.{rowsOf, textFaults}
-use Rattle.text.specs.Reading.{delaysOf}
+use Rattle.text.specs.Lines.{begin, line}
+use Rattle.text.specs.Faults.{isPair, textFaults, rowsOf}
 use Rattle.text.proofs.Lined.{at-line}
 use Rattle.text.proofs.Walk.{ended-low}
-use Rattle.text.proofs.Right.{Right, right}
+use Rattle.text.proofs.Right.{right}
+use native.Mathlib.Numerals.{add-one}
+use lib.Seq.{drop-cons, set-at}
+use Rattle.text.specs.Decimal.{isDecimal, value}
+use Rattle.text.specs.Reading.{delaysOf}
+
+module _ (x : List ℕ) (e : first (textFaults x) ≡ Fine) (a : ℕ) (h : a ≡ 0 + seek newline (drop 0 x)) where
+  second : a + 1 ≡ begin x 1
+  unfolding begin
+  second = at-line x 0 0 a refl h .1
+
+  pub second-low : a + 1 ≤ length x
+  second-low = rw second (ended-low x 0 (right x e .whole 0 (omega arith)))
+
+  module _ (b : ℕ) (k : b ≡ a + 1 + seek newline (drop (a + 1) x)) where
+    pub line-two : take (b - (a + 1)) (drop (a + 1) x) ≡ line x 1
+    line-two = at-line x 1 (a + 1) b second k .0
+
+    pub third : b + 1 ≡ begin x 2
+    third = at-line x 1 (a + 1) b second k .1
+
+    pub pair-there : isPair (take (b - (a + 1)) (drop (a + 1) x)) ≡ true
+    pair-there = ap isPair line-two ∙ right x e .pair .pair
 
 pub length-delays : (x : List ℕ) (n : ℕ) → length (delaysOf x n) ≡ n
 unfolding delaysOf
 length-delays x zero = refl
 length-delays x (suc n) = length-append (delaysOf x n) _ ∙ rw (length-delays x n) (add-one n)
 
-stored : (x old dst : List ℕ) (i v : ℕ) → i < length old → v ≡ value (line x (suc (suc i))) → dst ≡ delaysOf x i ++ drop i old → set dst i v ≡ delaysOf x (suc i) ++ drop (suc i) old
+stored : (x old dst : List ℕ) (i v : ℕ) → i < length old → v ≡ value (line x (suc (suc i))) → dst ≡ delaysOf x i ++ drop i old
+    → set dst i v ≡ delaysOf x (suc i) ++ drop (suc i) old
 unfolding delaysOf
 stored x old dst i v m e d =
     rw (append-assoc, ← e) (rw (d, drop-cons old i 0 m) (set-at (delaysOf x i) (getD old i 0) (drop (suc i) old) v i (length-delays x i)))
@@ -39,9 +58,16 @@ pub record Written (x old : List ℕ) (rows : ℕ) (dst : List ℕ) (from i : �
 module _ (x old : List ℕ) (rows : ℕ) (e : first (textFaults x) ≡ Fine) (r : rows ≡ rowsOf x) (room : rows ≤ length old) where
   pub none-yet : (at : ℕ) → at ≡ begin x 2 → Written x old rows old at 0
   unfolding delaysOf
-  none-yet at h = record { low = omega arith; place = h; inside = rw h (ended-low x 1 (right x e .whole 1 (omega arith))); same-length = refl; so-far = refl }
+  none-yet at h = record {
+    low = omega arith;
+    place = h;
+    inside = rw h (ended-low x 1 (right x e .whole 1 (omega arith)));
+    same-length = refl;
+    so-far = refl;
+  }
 
-  module _ (dst : List ℕ) (from i : ℕ) (w : Written x old rows dst from i) (l : i < rows) (end : ℕ) (h : end ≡ from + seek newline (drop from x)) where
+  module _ (dst : List ℕ) (from i : ℕ) (w : Written x old rows dst from i) (l : i < rows) (end : ℕ)
+      (h : end ≡ from + seek newline (drop from x)) where
     pub row-decimal : isDecimal (take (end - from) (drop from x)) ≡ true
     row-decimal = ap isDecimal (at-line x (suc (suc i)) from end (w .place) h .0) ∙ right x e .row i (omega arith) .0 .decimal
 
