@@ -1,9 +1,9 @@
 -- How the code's answer with so many tests to spend follows from the answers of its parts. Assumes nothing.
-use mathlib.Core.Path.{_≡_, refl, sym, ap, _∙_, subst}
+use mathlib.Core.Path.{_≡_, refl, sym, ap, _∙_}
 use mathlib.Core.Bool.{Bool, true, false, cond}
 use mathlib.Core.List.{List}
 use Prim.Native.Nat.{ℕ, _+_, _-_, _<_, _≤_}
-use native.Mathlib.Nat.{sub-zero}
+use native.Mathlib.Nat.{sub-zero, add-assoc}
 use native.Mathlib.Omega.{arith}
 use lib.Dec.{leb}
 use lib.ListN.{getD, set}
@@ -13,6 +13,22 @@ use Rattle.search.specs.Builds.{Out, found, none}
 use Rattle.search.specs.Search.{more, orElse, verdict, leaves, Answered}
 use Rattle.search.specs.declared.Hunt.{Hunt}
 use Rattle.search.specs.declared.Hunt.the-variants.{Found, Nothing, Spent}
+
+-- tests are added up
+more-more : (n m : ℕ) (o : Out) → more n (more m o) ≡ more (n + m) o
+unfolding more
+more-more n m (found s k) = ap (found s) (sym (add-assoc n m k))
+more-more n m (none k) = ap none (sym (add-assoc n m k))
+
+pub more-or : (n : ℕ) (a b : Out) → orElse (more n a) b ≡ more n (orElse a b)
+unfolding more orElse
+more-or n (found s k) b = refl
+more-or n (none k) b = sym (more-more n k b)
+
+pub more-zero : (o : Out) → more 0 o ≡ o
+unfolding more
+more-zero (found s k) = ap (found s) (omega arith)
+more-zero (none k) = ap none (omega arith)
 
 -- the whole search has ended: with no candidate, with every row placed, or with nothing to spend
 pub ended : (l : ℕ) (s : List ℕ) → Answered l s (none 0) (Nothing l) s
@@ -58,14 +74,16 @@ same-nothing : (a b : ℕ) → Nothing a ≡ Nothing b → a ≡ b
 same-nothing a b e = cc
 
 -- what each answer says of the search, and of the offsets that it leaves
-pub is-found : (l : ℕ) (s s′ : List ℕ) (o : Out) (k : ℕ) → Answered l s o (Found k) s′ → (n : ℕ) × (o ≡ found s′ n) × (n ≤ l) × (k ≡ l - n)
+pub is-found : (l : ℕ) (s s′ : List ℕ) (o : Out) (k : ℕ) → Answered l s o (Found k) s′
+    → (n : ℕ) × (o ≡ found s′ n) × (n ≤ l) × (k ≡ l - n)
 unfolding verdict leaves
 is-found l s s′ (found x n) k a = go (leb n l) refl (a .told) (a .kept)
   where
     same-found : (a b : ℕ) → Found a ≡ Found b → a ≡ b
     same-found a b e = cc
 
-    go : (b : Bool) → leb n l ≡ b → Found k ≡ cond b (Found (l - n)) Spent → s′ ≡ cond b x s → (m : ℕ) × (found x n ≡ found s′ m) × (m ≤ l) × (k ≡ l - m)
+    go : (b : Bool) → leb n l ≡ b → Found k ≡ cond b (Found (l - n)) Spent → s′ ≡ cond b x s
+        → (m : ℕ) × (found x n ≡ found s′ m) × (m ≤ l) × (k ≡ l - m)
     go true q e f = (n, ap (λ (y : List ℕ). found y n) (sym f), leb-true n l q, same-found _ _ e)
     go false q e f = absurd (found-spent k e)
 is-found l s s′ (none n) k a = absurd (go (leb n l) (a .told))
@@ -74,7 +92,8 @@ is-found l s s′ (none n) k a = absurd (go (leb n l) (a .told))
     go true e = found-nothing k (l - n) e
     go false e = found-spent k e
 
-pub is-nothing : (l : ℕ) (s s′ : List ℕ) (o : Out) (k : ℕ) → Answered l s o (Nothing k) s′ → (n : ℕ) × (o ≡ none n) × (n ≤ l) × (k ≡ l - n) × (s′ ≡ s)
+pub is-nothing : (l : ℕ) (s s′ : List ℕ) (o : Out) (k : ℕ) → Answered l s o (Nothing k) s′
+    → (n : ℕ) × (o ≡ none n) × (n ≤ l) × (k ≡ l - n) × (s′ ≡ s)
 unfolding verdict leaves
 is-nothing l s s′ (found x n) k a = absurd (go (leb n l) (a .told))
   where
@@ -83,7 +102,8 @@ is-nothing l s s′ (found x n) k a = absurd (go (leb n l) (a .told))
     go false e = nothing-spent k e
 is-nothing l s s′ (none n) k a = go (leb n l) refl (a .told)
   where
-    go : (b : Bool) → leb n l ≡ b → Nothing k ≡ cond b (Nothing (l - n)) Spent → (m : ℕ) × (none n ≡ none m) × (m ≤ l) × (k ≡ l - m) × (s′ ≡ s)
+    go : (b : Bool) → leb n l ≡ b → Nothing k ≡ cond b (Nothing (l - n)) Spent
+        → (m : ℕ) × (none n ≡ none m) × (m ≤ l) × (k ≡ l - m) × (s′ ≡ s)
     go true q e = (n, refl, leb-true n l q, same-nothing _ _ e, a .kept)
     go false q e = absurd (nothing-spent k e)
 
@@ -144,12 +164,14 @@ tests-or (none m) w = omega (arith, tests-more m w)
 module _ (l : ℕ) (s s′ : List ℕ) (o rest : Out) where
   pub or-found : (k : ℕ) → Answered l s o (Found k) s′ → Answered l s (orElse o rest) (Found k) s′
   unfolding orElse
-  or-found k a = let w = is-found l s s′ o k a in as-found l s s′ (orElse o rest) (w .0) k (ap (λ (x : Out). orElse x rest) (w .1)) (w .2) (w .3)
+  or-found k a = let w = is-found l s s′ o k a in as-found l s s′ (orElse o rest) (w .0) k (ap (λ (x : Out). orElse x rest) (w .1)) (w .2)
+      (w .3)
 
   pub or-spent : Answered l s o Spent s′ → Answered l s (orElse o rest) Spent s
   or-spent a = let w = is-spent l s s′ o a in as-spent l s (orElse o rest) (omega (arith, w, tests-or o rest))
 
-  pub or-next : (k : ℕ) (h : Hunt) (s″ : List ℕ) → Answered l s o (Nothing k) s′ → Answered k s rest h s″ → Answered l s (orElse o rest) h s″
+  pub or-next : (k : ℕ) (h : Hunt) (s″ : List ℕ) → Answered l s o (Nothing k) s′ → Answered k s rest h s″
+      → Answered l s (orElse o rest) h s″
   unfolding orElse
   or-next k h s″ a b =
       let w = is-nothing l s s′ o k a in

@@ -1,20 +1,21 @@
--- The code's test of a candidate is the definition's: over lists of starts, with the test of two starts that needs no slots. Assumes nothing.
+-- The code's test of a candidate is the definition's: over lists of starts, with the test of two starts that needs no slots.
+-- Assumes nothing.
 use mathlib.Core.Path.{_≡_, refl, sym, ap, _∙_}
-use mathlib.Core.Bool.{Bool, true, false, _&&_, _||_, not, cond}
+use mathlib.Core.Bool.{Bool, true, false, _&&_, _||_, not}
 use mathlib.Core.List.{List}
-use Prim.Native.Nat.{ℕ, _+_, _-_, _%_, _<_, _≤_}
+use Prim.Native.Nat.{ℕ, _+_, _-_, _<_, _≤_}
 use native.Mathlib.Omega.{arith}
-use native.Mathlib.Nat.{mod-lt, mod-eq-of-lt, mod-eq-sub-mod}
+use native.Mathlib.Nat.{mod-eq-of-lt, mod-eq-sub-mod}
 use lib.Dec.{ltb}
 use lib.ListN.{getD}
 use borrow.Author.Tests.{lt-ltb, le-ltb, ltb-true}
 use Rattle.link.specs.Slots.{apartb, meets}
-use Rattle.link.specs.Least.{least, some}
-use Rattle.link.specs.Rows.{Crossing, one, two, second, start, startAt, hits, either}
+use Rattle.link.specs.Least.{some}
+use Rattle.link.specs.Rows.{second, start, hits, either}
 use Rattle.link.proofs.Circle.{meets-apart}
 use Rattle.link.proofs.Minimum.{least-cong}
 use Rattle.link.proofs.Meeting.{second-low}
-use Rattle.search.specs.Steps.{Step, placed, after, offsetOf, puts, inTheWay, good}
+use Rattle.search.specs.Steps.{Step, placed, puts, inTheWay, good}
 use Rattle.search.specs.Search.{Table, Starts, blocked, unblocked}
 
 -- a sum below the period, and one that goes round
@@ -39,7 +40,8 @@ module _ (p l a b x y : ℕ) where
   unfolding blocked
   second-decides h e = rw (lt-ltb x p h, e)
 
-module _ (p l : ℕ) (ds : List ℕ) (n : ℕ) (t : Table p l ds n) (xs ys : List ℕ) (st : Starts p ds n xs ys) (d a b : ℕ) (ha : a < p) (hb : b ≡ second p d a) where
+module _ (p l : ℕ) (ds : List ℕ) (n : ℕ) (t : Table p l ds n) (xs ys : List ℕ) (st : Starts p ds n xs ys) (d a b : ℕ) (ha : a < p)
+    (hb : b ≡ second p d a) where
   same : (i : ℕ) → i < n → blocked p l a b (getD xs i 0) (getD ys i 0) ≡ inTheWay p l ds xs d a i
   unfolding blocked inTheWay placed either hits start
   same i h = go (ltb (getD xs i 0) p) refl
@@ -53,15 +55,18 @@ module _ (p l : ℕ) (ds : List ℕ) (n : ℕ) (t : Table p l ds n) (xs ys : Lis
             meets-apart p l (getD xs i 0) a q ha (t .span),
             st .seconds i h q,
             hb,
-            meets-apart p l (second p (getD ds i 0) (getD xs i 0)) (second p d a) (second-low p _ _ (omega arith)) (second-low p d a (omega arith)) (t .span),
+            meets-apart p l (second p (getD ds i 0) (getD xs i 0)) (second p d a) (second-low p _ _ (omega arith))
+                (second-low p d a (omega arith)) (t .span),
           )
 
   pub unblocked-free : unblocked p l xs ys n a b ≡ not (some (inTheWay p l ds xs d a) n)
   unfolding unblocked
   unblocked-free = ap (λ (x : ℕ). not (ltb x n)) (least-cong _ _ n same)
 
-pub unblocked-good : (p l : ℕ) (ds : List ℕ) (n : ℕ) → Table p l ds n → (xs ys : List ℕ) → Starts p ds n xs ys → (k : Step) (a b : ℕ) (r : Bool)
+pub unblocked-good : (p l : ℕ) (ds : List ℕ) (n : ℕ) → Table p l ds n → (xs ys : List ℕ) → Starts p ds n xs ys
+    → (k : Step) (a b : ℕ) (r : Bool)
     → a < p → a ≡ puts p l ds xs k → b ≡ second p (getD ds (k .row) 0) a → r ≡ unblocked p l xs ys n a b → r ≡ good p l ds n xs k
 unfolding good
 unblocked-good p l ds n t xs ys st k a b r ha ea hb e =
-    e ∙ unblocked-free p l ds n t xs ys st (getD ds (k .row) 0) a b ha hb ∙ ap (λ (x : ℕ). not (some (inTheWay p l ds xs (getD ds (k .row) 0) x) n)) ea
+    e ∙ unblocked-free p l ds n t xs ys st (getD ds (k .row) 0) a b ha hb
+    ∙ ap (λ (x : ℕ). not (some (inTheWay p l ds xs (getD ds (k .row) 0) x) n)) ea

@@ -1,16 +1,16 @@
 -- There are never more step sequences than the ceiling. Assumes nothing.
-use mathlib.Core.Path.{_≡_, refl, sym, ap, _∙_, subst}
+use mathlib.Core.Path.{_≡_, refl}
 use mathlib.Core.Bool.{Bool, true, false, not, cond}
-use mathlib.Core.List.{List, [], _∷_, _++_, map, List·Memᴰ, List·Memᴰ·head, List·Memᴰ·tail}
+use mathlib.Core.List.{List, [], _∷_, map, List·Memᴰ, List·Memᴰ·head, List·Memᴰ·tail}
 use Prim.Native.Nat.{ℕ, zero, suc, _+_, _-_, _*_, _<_, _≤_}
 use native.Mathlib.Omega.{arith}
-use native.Mathlib.Nat.{le-trans, le-refl, mul-le-mul, add-mul, one-mul, suc-mul}
+use native.Mathlib.Nat.{le-trans, le-refl, suc-mul}
 use lib.ListN.{length, length-append, length-map}
 use Rattle.link.specs.Limits.{maxRows}
 use Rattle.link.specs.Rows.{one, two}
 use Rattle.search.specs.Steps.{Step, step, Rules, rules, placed, from, besides, rowSteps, steps}
 use Rattle.search.specs.Builds.{behind, sequences, begin, count}
-use Rattle.search.specs.Ceilings.{choices, products, ceilingOf}
+use Rattle.search.specs.Ceilings.{choices, ceilingOf}
 use Rattle.search.proofs.Ceilings.{nested, products-nested}
 use Rattle.search.proofs.Counts.{howMany, all-of, length-from}
 use Rattle.search.proofs.Listing.{steps-are}
@@ -26,7 +26,8 @@ count-most f (q ∷ qs) = go (f q) (count-most f qs)
     go false h = omega arith
 
 -- each candidate is one sequence, and has at most b behind it
-behind-most : (r : Rules) (d : List ℕ → List (List Step)) (s : List ℕ) (b : ℕ) (ks : List Step) → ((k : Step) → List·Memᴰ k ks → length (d (r .put s k)) ≤ b)
+behind-most : (r : Rules) (d : List ℕ → List (List Step)) (s : List ℕ) (b : ℕ) (ks : List Step)
+    → ((k : Step) → List·Memᴰ k ks → length (d (r .put s k)) ≤ b)
     → length (behind r d s ks) ≤ length ks * (1 + b)
 unfolding behind
 behind-most r d s b [] h = omega arith
@@ -84,4 +85,5 @@ module _ (p l : ℕ) (ds : List ℕ) (n : ℕ) (some : 0 < p) where
 
   pub below-ceiling : 0 < n → n ≤ maxRows → length (sequences (rules p l ds n) (n - 1) (begin p)) ≤ ceilingOf n
   unfolding ceilingOf
-  below-ceiling hn few = rw (products-nested (choices n) 1 (n - 1)) (sequences-most (n - 1) 1 (begin p) (omega arith) (begin-at p n some hn few))
+  below-ceiling hn few = rw (products-nested (choices n) 1 (n - 1))
+      (sequences-most (n - 1) 1 (begin p) (omega arith) (begin-at p n some hn few))

@@ -1,7 +1,7 @@
 -- The ceilings. Assumes nothing.
-use mathlib.Core.Path.{_≡_, refl, sym, ap, _∙_}
-use mathlib.Core.List.{List, [], _∷_}
-use Prim.Native.Nat.{ℕ, zero, suc, _+_, _-_, _*_, _<_, _≤_}
+use mathlib.Core.Path.{_≡_, refl, ap, _∙_}
+use mathlib.Core.List.{[], _∷_}
+use Prim.Native.Nat.{ℕ, zero, suc, _+_, _*_, _≤_}
 use native.Mathlib.Omega.{arith}
 use native.Mathlib.Nat.{mul-add}
 use lib.ListN.{getD}
@@ -31,7 +31,8 @@ products-step : (f : ℕ → ℕ) (a m : ℕ) → products f a (suc m) ≡ f a *
 unfolding products product
 products-step f a zero = omega arith
 products-step f a (suc m) =
-    rw (products-step f a m, ← mul-add (f a) (1 + products f (suc a) m) (f (suc a) * product f (suc (suc a)) m)) (ap (_*_ (f a)) (omega arith))
+    rw (products-step f a m, ← mul-add (f a) (1 + products f (suc a) m) (f (suc a) * product f (suc (suc a)) m))
+    (ap (_*_ (f a)) (omega arith))
 
 pub products-nested : (f : ℕ → ℕ) (a m : ℕ) → products f a m ≡ nested f a m
 unfolding nested products

@@ -1,28 +1,30 @@
--- Where some offsets are clear, there is a whole build: rows that are not placed move back slot by slot until one touches a placed row. Assumes nothing.
+-- Where some offsets are clear, a step leads on: rows that are not placed move back slot by slot, all together, until one touches a
+-- placed row; that step is good, and the offsets agree with where it leads. Assumes nothing.
 use mathlib.Core.Path.{_≡_, refl, sym, ap, _∙_, subst}
 use mathlib.Core.Logic.{_⊎_, inl, inr, ⊎-elim}
-use mathlib.Core.Bool.{Bool, true, false, _&&_, _||_, not, cond}
+use mathlib.Core.Bool.{Bool, true, false, _&&_, not, cond}
 use mathlib.Core.List.{List, [], _∷_, List·Memᴰ, List·Memᴰ·head, List·Memᴰ·tail, List·Memᴰ·cases-cons, List·Memᴰ·not-nil}
-use Prim.Native.Nat.{ℕ, zero, suc, _+_, _-_, _<_, _≤_}
+use Prim.Native.Nat.{ℕ, zero, suc, _-_, _<_, _≤_}
 use native.Mathlib.Omega.{arith}
 use lib.Dec.{eqb}
-use lib.ListN.{length, getD, set}
+use lib.ListN.{length, getD}
 use borrow.Author.Tests.{lt-ltb, eq-eqb, eqb-true, eqb-false}
 use Rattle.link.specs.Rows.{Crossing, one, two, start, startAt, hits, either}
-use Rattle.link.proofs.Bools.{clash, and-both}
+use Rattle.link.proofs.Bools.{clash}
 use Rattle.link.proofs.Circle.{Apart}
 use Rattle.link.proofs.Minimum.{some-none}
 use Rattle.link.proofs.Meeting.{start-low, neither}
-use Rattle.search.specs.Steps.{Step, step, Rules, rules, placed, after, offsetOf, puts, inTheWay, good, put, steps, isStep}
-use Rattle.search.proofs.Listing.{steps-have, steps-are}
+use Rattle.search.specs.Steps.{Step, step, placed, after, puts, inTheWay, good, put, steps, isStep}
+use Rattle.search.proofs.Listing.{steps-have}
 use Rattle.search.proofs.Moving.{Back, apart-sym, apart-both, apart-one, start-back, offset-start, apart-met}
-use Rattle.search.proofs.Numbers.{Names, names}
-use Rattle.search.proofs.States.{At, is-placed, placed-low, not-placed, put-other, put-here, puts-low}
+use Rattle.search.proofs.Numbers.{names}
+use Rattle.search.proofs.States.{is-placed, placed-low, not-placed, put-other, put-here}
 
 -- a clear plan, row by row
 pub record Plan (p l : ℕ) (ds : List ℕ) (n : ℕ) (A : ℕ → ℕ) : Type 0 where
   pub inside : (i : ℕ) → i < n → A i < p
-  pub apart : (c : Crossing) (i j : ℕ) → i < n → j < n → (i ≡ j → ⊥) → Apart p l (startAt p c (getD ds i 0) (A i)) (startAt p c (getD ds j 0) (A j))
+  pub apart : (c : Crossing) (i j : ℕ) → i < n → j < n → (i ≡ j → ⊥)
+      → Apart p l (startAt p c (getD ds i 0) (A i)) (startAt p c (getD ds j 0) (A j))
 
 -- it agrees with the rows that are placed
 abbrev pub Extends : ℕ → ℕ → List ℕ → (ℕ → ℕ) → Type 0
@@ -38,7 +40,8 @@ look f (x ∷ ks) = go (f x) refl (look f ks)
     go false e (inl w) = inl (w .0, List·Memᴰ·tail (w .1), w .2)
     go false e (inr w) = inr (λ k m. ⊎-elim (λ z. ap f z ∙ e) (w k) (List·Memᴰ·cases-cons m))
 
-step-is : (p n : ℕ) (s : List ℕ) (j i : ℕ) (c : Crossing) → i < n → j < n → placed p s i ≡ true → placed p s j ≡ false → isStep p n s (step j i c) ≡ true
+step-is : (p n : ℕ) (s : List ℕ) (j i : ℕ) (c : Crossing) → i < n → j < n → placed p s i ≡ true → placed p s j ≡ false
+    → isStep p n s (step j i c) ≡ true
 unfolding isStep
 step-is p n s j i c hi hj pi pj = rw (lt-ltb j n hj, lt-ltb i n hi, pi, pj)
 
@@ -51,10 +54,11 @@ module _ (p l : ℕ) (ds : List ℕ) (n : ℕ) (hl : 0 < l) (lp : l ≤ p) (hn :
   touches A k = eqb (A (k .row)) (puts p l ds s k)
 
   module _ (A : ℕ → ℕ) (a : Plan p l ds n A) (x : Extends p n s A) where
+    -- where a row starts
     abbrev st : Crossing → ℕ → ℕ
     st c i = startAt p c (getD ds i 0) (A i)
 
-    st-low : (c : Crossing) (i : ℕ) → i < n → startAt p c (getD ds i 0) (A i) < p
+    st-low : (c : Crossing) (i : ℕ) → i < n → st c i < p
     st-low c i h = start-low p c (getD ds i 0) (A i) (a .inside i h)
 
     -- a row that is not placed stands at l or later
@@ -65,14 +69,16 @@ module _ (p l : ℕ) (ds : List ℕ) (n : ℕ) (hl : 0 < l) (lp : l ≤ p) (hn :
         omega arith
 
     -- a row right after a placed one is where a step puts it
-    touch-at : (c : Crossing) (i j : ℕ) → i < n → j < n → placed p s i ≡ true → placed p s j ≡ false → startAt p c (getD ds j 0) (A j) ≡ after p l (startAt p c (getD ds i 0) (A i))
+    touch-at : (c : Crossing) (i j : ℕ) → i < n → j < n → placed p s i ≡ true → placed p s j ≡ false
+        → st c j ≡ after p l (st c i)
         → touches A (step j i c) ≡ true
     unfolding touches puts start
     touch-at c i j hi hj pi pj e =
         eq-eqb _ _ (sym (offset-start p (omega arith) c (getD ds j 0) (A j) (a .inside j hj)) ∙ rw (e, x i hi pi))
 
     module _ (no : (k : Step) → List·Memᴰ k (steps p n s) → touches A k ≡ false) where
-      free-of : (c : Crossing) (i j : ℕ) → i < n → j < n → placed p s i ≡ true → placed p s j ≡ false → startAt p c (getD ds j 0) (A j) ≡ after p l (startAt p c (getD ds i 0) (A i)) → ⊥
+      free-of : (c : Crossing) (i j : ℕ) → i < n → j < n → placed p s i ≡ true → placed p s j ≡ false
+          → st c j ≡ after p l (st c i) → ⊥
       free-of c i j hi hj pi pj e =
           clash (touch-at c i j hi hj pi pj e) (no (step j i c) (steps-have p n s (step j i c) (step-is p n s j i c hi hj pi pj)))
 
@@ -80,7 +86,8 @@ module _ (p l : ℕ) (ds : List ℕ) (n : ℕ) (hl : 0 < l) (lp : l ≤ p) (hn :
       abbrev moved : Bool → ℕ → ℕ
       moved b i = cond b (A i) (A i - 1)
 
-      back-one : (c : Crossing) (j : ℕ) → j < n → placed p s j ≡ false → Back p (startAt p c (getD ds j 0) (A j)) (startAt p c (getD ds j 0) (A j - 1))
+      back-one : (c : Crossing) (j : ℕ) → j < n → placed p s j ≡ false
+          → Back p (st c j) (startAt p c (getD ds j 0) (A j - 1))
       back-one c j h e =
           let w = later j h e in
           let q : A j ≡ suc (A j - 1) = omega arith in
@@ -91,15 +98,20 @@ module _ (p l : ℕ) (ds : List ℕ) (n : ℕ) (hl : 0 < l) (lp : l ≤ p) (hn :
           → Apart p l (startAt p c (getD ds i 0) (moved b i)) (startAt p c (getD ds j 0) (moved d j))
       still c i j hi hj m true true pi pj = a .apart c i j hi hj m
       still c i j hi hj m true false pi pj =
-          apart-one p l _ _ _ hl lp (st-low c i hi) (st-low c j hj) (a .apart c i j hi hj m) (back-one c j hj pj) (free-of c i j hi hj pi pj)
+          apart-one p l _ _ _ hl lp (st-low c i hi) (st-low c j hj) (a .apart c i j hi hj m) (back-one c j hj pj)
+          (free-of c i j hi hj pi pj)
       still c i j hi hj m false true pi pj =
           apart-sym p l _ _
-          (apart-one p l _ _ _ hl lp (st-low c j hj) (st-low c i hi) (a .apart c j i hj hi (λ z. m (sym z))) (back-one c i hi pi) (free-of c j i hj hi pj pi))
+          (apart-one p l _ _ _ hl lp (st-low c j hj) (st-low c i hi) (a .apart c j i hj hi (λ z. m (sym z))) (back-one c i hi pi)
+          (free-of c j i hj hi pj pi))
       still c i j hi hj m false false pi pj =
           apart-both p l _ _ _ _ hl (st-low c i hi) (st-low c j hj) (a .apart c i j hi hj m) (back-one c i hi pi) (back-one c j hj pj)
 
       moved-plan : Plan p l ds n (λ i. moved (placed p s i) i)
-      moved-plan = record { inside = λ i h. in-moved (placed p s i) i h; apart = λ c i j hi hj m. still c i j hi hj m (placed p s i) (placed p s j) refl refl }
+      moved-plan = record {
+        inside = λ i h. in-moved (placed p s i) i h;
+        apart = λ c i j hi hj m. still c i j hi hj m (placed p s i) (placed p s j) refl refl;
+      }
         where
           in-moved : (b : Bool) (i : ℕ) → i < n → cond b (A i) (A i - 1) < p
           in-moved true i h = a .inside i h
@@ -121,11 +133,13 @@ module _ (p l : ℕ) (ds : List ℕ) (n : ℕ) (hl : 0 < l) (lp : l ≤ p) (hn :
   reach j hj pj zero A a x h = absurd (omega (arith, later A a x j hj pj))
   reach j hj pj (suc m) A a x h =
       ⊎-elim (λ w. record { plan = A; clear = a; extends = x; hit = w .0; mem = w .1; holds = w .2 })
-      (λ no. reach j hj pj m (λ i. cond (placed p s i) (A i) (A i - 1)) (moved-plan A a x no) (moved-extends A a x no) (rw pj (omega arith)))
+      (λ no. reach j hj pj m (λ i. cond (placed p s i) (A i) (A i - 1)) (moved-plan A a x no) (moved-extends A a x no)
+      (rw pj (omega arith)))
       (look (touches A) (steps p n s))
 
   -- a touching step is good, and the plan agrees with what it leaves
-  module _ (long : n ≤ length s) (A : ℕ → ℕ) (a : Plan p l ds n A) (x : Extends p n s A) (k : Step) (is : isStep p n s k ≡ true) (e : touches A k ≡ true) where
+  module _ (long : n ≤ length s) (A : ℕ → ℕ) (a : Plan p l ds n A) (x : Extends p n s A) (k : Step) (is : isStep p n s k ≡ true)
+      (e : touches A k ≡ true) where
     at : A (k .row) ≡ puts p l ds s k
     unfolding touches
     at = eqb-true _ _ e
@@ -133,7 +147,8 @@ module _ (p l : ℕ) (ds : List ℕ) (n : ℕ) (hl : 0 < l) (lp : l ≤ p) (hn :
     other : (i : ℕ) → placed p s i ≡ true → i ≡ k .row → ⊥
     other i q z = clash (sym (ap (placed p s) z) ∙ q) (not-placed p s (k .row) (names p n s k is .row-free))
 
-    clear-of : (i : ℕ) → i < n → (b : Bool) → placed p s i ≡ b → (b && either (hits p l ds s (getD ds (k .row) 0) (puts p l ds s k)) i) ≡ false
+    clear-of : (i : ℕ) → i < n → (b : Bool) → placed p s i ≡ b
+        → (b && either (hits p l ds s (getD ds (k .row) 0) (puts p l ds s k)) i) ≡ false
     unfolding hits start
     clear-of i h false q = refl
     clear-of i h true q = neither (hits p l ds s (getD ds (k .row) 0) (puts p l ds s k)) i (free one) (free two)
@@ -142,7 +157,8 @@ module _ (p l : ℕ) (ds : List ℕ) (n : ℕ) (hl : 0 < l) (lp : l ≤ p) (hn :
         free c =
             let w = names p n s k is in
             rw (← at, ← x i h q)
-            (apart-met p l _ _ (st-low A a x c i h) (st-low A a x c (k .row) (w .row-low)) lp (a .apart c i (k .row) h (w .row-low) (other i q)))
+            (apart-met p l _ _ (st-low A a x c i h) (st-low A a x c (k .row) (w .row-low)) lp
+            (a .apart c i (k .row) h (w .row-low) (other i q)))
 
     pub touch-good : good p l ds n s k ≡ true
     unfolding good inTheWay

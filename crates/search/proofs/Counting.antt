@@ -1,33 +1,20 @@
--- The search goes through the step sequences in their order: it finds the least whole build, with as many tests as sequences are not later. Assumes nothing.
+-- The search goes through the step sequences in their order: it finds the least whole build, with as many tests as sequences are
+-- not later. Assumes nothing.
 use mathlib.Core.Path.{_≡_, refl, sym, ap, _∙_}
-use mathlib.Core.Bool.{Bool, true, false, _&&_, not, cond}
-use mathlib.Core.List.{List, [], _∷_, _++_, map, List·Memᴰ, List·Memᴰ·head, List·Memᴰ·tail}
-use Prim.Native.Nat.{ℕ, zero, suc, _+_, _-_}
+use mathlib.Core.Bool.{Bool, true, false, _&&_, cond}
+use mathlib.Core.List.{List, [], _∷_, _++_, map, List·Memᴰ·head, List·Memᴰ·tail}
+use Prim.Native.Nat.{ℕ, zero, suc, _-_}
 use native.Mathlib.Omega.{arith}
-use native.Mathlib.Nat.{add-assoc}
 use lib.Dec.{eqb, eqb·suc-suc}
 use lib.ListN.{length}
 use borrow.Author.Tests.{ne-eqb}
 use Rattle.search.specs.Steps.{Step, Rules}
-use Rattle.search.specs.Builds.{earlierStep, earlier, notLater, behind, sequences, leads, allGood, isWhole, First, first, nothing, firstOf, count, Out, found, none, counted, leastBuild}
+use Rattle.search.specs.Builds.{earlierStep, earlier, notLater, behind, sequences, leads, allGood, isWhole, First, first, nothing}
+use Rattle.search.specs.Builds.{firstOf, count, Out, found, none, counted, leastBuild}
 use Rattle.search.specs.Search.{more, orElse, tried, walk, deep}
+use Rattle.search.proofs.Answering.{more-or, more-zero}
 use Rattle.search.proofs.Orders.{Before, Sorted, not-itself, one-way}
 use Rattle.search.proofs.Sequences.{sequences-sorted}
-
-more-more : (n m : ℕ) (o : Out) → more n (more m o) ≡ more (n + m) o
-unfolding more
-more-more n m (found s k) = ap (found s) (sym (add-assoc n m k))
-more-more n m (none k) = ap none (sym (add-assoc n m k))
-
-more-or : (n : ℕ) (a b : Out) → orElse (more n a) b ≡ more n (orElse a b)
-unfolding more orElse
-more-or n (found s k) b = refl
-more-or n (none k) b = sym (more-more n k b)
-
-more-zero : (o : Out) → more 0 o ≡ o
-unfolding more
-more-zero (found s k) = ap (found s) (omega arith)
-more-zero (none k) = ap none (omega arith)
 
 -- the first of a list that has f, as what g makes of it, with how many stand up to it
 module _ (f : List Step → Bool) (g : List Step → List ℕ) where
@@ -40,7 +27,8 @@ module _ (f : List Step → Bool) (g : List Step → List ℕ) where
   scan-append [] ys = sym (more-zero (scan ys))
   scan-append (x ∷ xs) ys = go (scan-append xs ys) (f x)
     where
-      go : scan (xs ++ ys) ≡ orElse (scan xs) (scan ys) → (b : Bool) → cond b (found (g x) 1) (more 1 (scan (xs ++ ys))) ≡ orElse (cond b (found (g x) 1) (more 1 (scan xs))) (scan ys)
+      go : scan (xs ++ ys) ≡ orElse (scan xs) (scan ys) → (b : Bool)
+          → cond b (found (g x) 1) (more 1 (scan (xs ++ ys))) ≡ orElse (cond b (found (g x) 1) (more 1 (scan xs))) (scan ys)
       go e true = refl
       go e false = ap (more 1) e ∙ sym (more-or 1 (scan xs) (scan ys))
 
@@ -54,7 +42,8 @@ module _ (f : List Step → Bool) (g : List Step → List ℕ) where
   at qs nothing = none (length qs)
 
   -- what is first stands behind what is before all
-  first-behind : (x : List Step) (qs : List (List Step)) (q : List Step) → Before earlier x qs → firstOf f qs ≡ first q → earlier x q ≡ true
+  first-behind : (x : List Step) (qs : List (List Step)) (q : List Step) → Before earlier x qs → firstOf f qs ≡ first q
+      → earlier x q ≡ true
   unfolding firstOf
   first-behind x [] q b e = absurd (let z : _≡_ {A = ℕ} 0 1 = cc in omega arith)
   first-behind x (y ∷ ys) q b e = go (f y) (first-behind x ys q (λ z m. b z (List·Memᴰ·tail m))) e
@@ -72,13 +61,15 @@ module _ (f : List Step → Bool) (g : List Step → List ℕ) where
   scan-first [] s = refl
   scan-first (y ∷ ys) s = go (f y) (firstOf f ys) refl (scan-first ys (s .1))
     where
-      go : (t : Bool) (o : First) → firstOf f ys ≡ o → scan ys ≡ at ys o → cond t (found (g y) 1) (more 1 (scan ys)) ≡ at (y ∷ ys) (cond t (first y) o)
+      go : (t : Bool) (o : First) → firstOf f ys ≡ o → scan ys ≡ at ys o
+          → cond t (found (g y) 1) (more 1 (scan ys)) ≡ at (y ∷ ys) (cond t (first y) o)
       go true o e h = rw (not-itself y, none-later y ys (s .0))
       go false (first q) e h = rw (h, one-way y q (first-behind y ys q (s .0) e))
       go false nothing e h = rw h (ap none (omega arith))
 
 -- the same test and result make the same scan, behind one more step
-scan-map : (f h : List Step → Bool) (g j : List Step → List ℕ) (k : Step) → ((q : List Step) → f (k ∷ q) ≡ h q) → ((q : List Step) → g (k ∷ q) ≡ j q)
+scan-map : (f h : List Step → Bool) (g j : List Step → List ℕ) (k : Step) → ((q : List Step) → f (k ∷ q) ≡ h q)
+    → ((q : List Step) → g (k ∷ q) ≡ j q)
     → (qs : List (List Step)) → scan f g (map (_∷_ k) qs) ≡ scan h j qs
 unfolding scan
 scan-map f h g j k a b [] = refl
@@ -114,17 +105,21 @@ module _ (r : Rules) where
     unfolding scan
     bad-scan k e = rw (bad-not-whole s k u e)
 
-    tried-scan : (k : Step) (b : Bool) → r .good s k ≡ b → scanned (suc u) s (map (_∷_ k) ([] ∷ cond b (sequences r u (r .put s k)) [])) ≡ more 1 (cond b (deep r u (r .put s k)) (none 0))
+    tried-scan : (k : Step) (b : Bool) → r .good s k ≡ b
+        → scanned (suc u) s (map (_∷_ k) ([] ∷ cond b (sequences r u (r .put s k)) [])) ≡ more 1 (cond b (deep r u (r .put s k)) (none 0))
     tried-scan k true e =
-        scan-map (isWhole r (suc u) s) (isWhole r u (r .put s k)) (leads r s) (leads r (r .put s k)) k (whole-more s k u e) (leads-more s k) ([] ∷ sequences r u (r .put s k)) ∙ ih (r .put s k)
+        scan-map (isWhole r (suc u) s) (isWhole r u (r .put s k)) (leads r s) (leads r (r .put s k)) k (whole-more s k u e)
+        (leads-more s k) ([] ∷ sequences r u (r .put s k)) ∙ ih (r .put s k)
     tried-scan k false e = bad-scan k e
 
     walk-scan : (ks : List Step) → scanned (suc u) s (behind r (sequences r u) s ks) ≡ walk r (deep r u) s ks
     unfolding walk behind scan tried
     walk-scan [] = refl
     walk-scan (k ∷ ks) =
-        scan-append (isWhole r (suc u) s) (leads r s) (map (_∷_ k) ([] ∷ cond (r .good s k) (sequences r u (r .put s k)) [])) (behind r (sequences r u) s ks)
-        ∙ rw (tried-scan k (r .good s k) refl, walk-scan ks) (more-or 1 (cond (r .good s k) (deep r u (r .put s k)) (none 0)) (walk r (deep r u) s ks))
+        scan-append (isWhole r (suc u) s) (leads r s) (map (_∷_ k) ([] ∷ cond (r .good s k) (sequences r u (r .put s k)) []))
+        (behind r (sequences r u) s ks)
+        ∙ rw (tried-scan k (r .good s k) refl, walk-scan ks)
+        (more-or 1 (cond (r .good s k) (deep r u (r .put s k)) (none 0)) (walk r (deep r u) s ks))
 
   deep-scan : (u : ℕ) (s : List ℕ) → scanned u s ([] ∷ sequences r u s) ≡ more 1 (deep r u s)
   unfolding scan deep sequences isWhole allGood leads more
@@ -151,5 +146,6 @@ module _ (r : Rules) where
   pub deep-least : ((s : List ℕ) → Sorted earlierStep (r .steps s)) → (u : ℕ) (s : List ℕ) → deep r u s ≡ leastBuild r u s
   unfolding leastBuild
   deep-least h u s =
-      sym (less-more (deep r u s)) ∙ ap less (sym (deep-scan u s) ∙ scan-first (isWhole r u s) (leads r s) ([] ∷ sequences r u s) (sequences-sorted r h u s))
+      sym (less-more (deep r u s)) ∙ ap less (sym (deep-scan u s)
+      ∙ scan-first (isWhole r u s) (leads r s) ([] ∷ sequences r u s) (sequences-sorted r h u s))
       ∙ front-counts u s (firstOf (isWhole r u s) ([] ∷ sequences r u s))

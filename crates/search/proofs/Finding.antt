@@ -1,27 +1,28 @@
--- Where a clear plan agrees with the rows placed so far, good steps lead on to a whole build; and any clear plan can be turned so that row 0 stands at 0.
--- Assumes nothing.
+-- Where a clear plan agrees with the rows placed so far, good steps lead on to a whole build; and any clear plan can be turned so
+-- that row 0 stands at 0. Assumes nothing.
 use mathlib.Core.Path.{_≡_, refl, sym, ap, _∙_}
-use mathlib.Core.Logic.{_⊎_, inl, inr, ⊎-elim}
-use mathlib.Core.Bool.{Bool, true, false, not, cond}
+use mathlib.Core.Logic.{inl, inr}
+use mathlib.Core.Bool.{not}
 use mathlib.Core.List.{List, [], _∷_}
 use Prim.Native.Nat.{ℕ, zero, suc, _+_, _-_, _%_, _<_, _≤_}
 use native.Mathlib.Omega.{arith}
-use native.Mathlib.Nat.{add-comm, add-assoc, mod-add-mod, mod-self}
-use lib.ListN.{length, getD, length-replicate}
+use native.Mathlib.Nat.{mod-add-mod, mod-self}
+use lib.ListN.{getD}
 use borrow.Author.Tests.{not-true}
 use Rattle.link.specs.Limits.{maxRows}
 use Rattle.link.specs.Rows.{Crossing, one, two, second, startAt}
 use Rattle.link.proofs.Circle.{Apart, Turned, turned}
 use Rattle.link.proofs.Meeting.{second-low, start-low}
-use Rattle.search.specs.Steps.{Step, Rules, rules, placed}
+use Rattle.search.specs.Steps.{Step, rules, placed}
 use Rattle.search.specs.Builds.{Build, done, onward, begin}
-use Rattle.search.proofs.Counts.{howMany, one-of, all-of}
+use Rattle.search.proofs.Counts.{one-of}
 use Rattle.search.proofs.Listing.{steps-are}
 use Rattle.search.proofs.States.{At, put-at, begin-free, begin-at}
 use Rattle.search.proofs.Completeness.{Plan, Extends, reach, touch-good, touch-extends}
 
 module _ (p l : ℕ) (ds : List ℕ) (n : ℕ) (hl : 0 < l) (lp : l ≤ p) (hn : 0 < n) where
-  pub builds : (u : ℕ) (s : List ℕ) → At p n u s → (A : ℕ → ℕ) → Plan p l ds n A → Extends p n s A → (q : List Step) × Build (rules p l ds n) u s q
+  pub builds : (u : ℕ) (s : List ℕ) → At p n u s → (A : ℕ → ℕ) → Plan p l ds n A → Extends p n s A
+      → (q : List Step) × Build (rules p l ds n) u s q
   builds zero s a A pl x = ([], done)
   builds (suc u) s a A pl x =
       let w = one-of (λ i. not (placed p s i)) 0 n (omega (arith, a .left)) in
@@ -29,8 +30,11 @@ module _ (p l : ℕ) (ds : List ℕ) (n : ℕ) (hl : 0 < l) (lp : l ≤ p) (hn :
       let t = reach p l ds n hl lp hn s (a .first) j (omega (arith, w .2)) (not-true (placed p s j) (w .3)) (A j) A pl x (omega arith) in
       let is = steps-are p n s (t .hit) (t .mem) in
       let next = builds u _ (put-at p l ds s (t .hit) n u (omega arith) is a) (t .plan) (t .clear)
-      (touch-extends p l ds n hl lp hn s (a .first) (a .long) (t .plan) (t .clear) (t .extends) (t .hit) is (t .holds)) in
-      (t .hit ∷ next .0, onward (t .mem) (touch-good p l ds n hl lp hn s (a .first) (a .long) (t .plan) (t .clear) (t .extends) (t .hit) is (t .holds)) (next .1))
+      (touch-extends p l ds n hl lp hn s (a .first) (a .long) (t .plan) (t .clear) (t .extends) (t .hit) is (t .holds)) in (
+        t .hit ∷ next .0,
+        onward (t .mem) (touch-good p l ds n hl lp hn s (a .first) (a .long) (t .plan) (t .clear) (t .extends)
+            (t .hit) is (t .holds)) (next .1),
+      )
 
 apart-turned : (p l r a b : ℕ) {x y : ℕ} → r ≤ p → a < p → b < p → Apart p l a b → Turned p (a + r) x → Turned p (b + r) y → Apart p l x y
 apart-turned p l r a b h i j w (inl u) (inl v) = omega arith
@@ -67,7 +71,8 @@ module _ (p l : ℕ) (ds : List ℕ) (n : ℕ) (A : ℕ → ℕ) (a : Plan p l d
   pub complete : 0 < l → l ≤ p → 0 < n → n ≤ maxRows → (q : List Step) × Build (rules p l ds n) (n - 1) (begin p) q
   unfolding second
   complete hl lp hn few =
-      builds p l ds n hl lp hn (n - 1) (begin p) (begin-at p n (omega arith) hn few) (λ i. second p (p - A 0) (A i)) (turned-plan (p - A 0) (omega arith)) agrees
+      builds p l ds n hl lp hn (n - 1) (begin p) (begin-at p n (omega arith) hn few) (λ i. second p (p - A 0) (A i))
+      (turned-plan (p - A 0) (omega arith)) agrees
     where
       agrees : Extends p n (begin p) (λ i. second p (p - A 0) (A i))
       agrees i h e =

@@ -1,17 +1,18 @@
 -- What is found is the least whole build; where none is found there is none. Assumes nothing.
 use mathlib.Core.Path.{_≡_, refl, sym, ap, _∙_, subst}
 use mathlib.Core.Logic.{_⊎_, inl, inr, ⊎-elim}
-use mathlib.Core.Bool.{Bool, true, false, _&&_, not, cond}
+use mathlib.Core.Bool.{Bool, true, false, cond}
 use mathlib.Core.List.{List, [], _∷_, List·Memᴰ, List·Memᴰ·head, List·Memᴰ·tail, List·Memᴰ·cases-cons, List·Memᴰ·not-nil}
-use Prim.Native.Nat.{ℕ, zero, suc, _+_, _≤_}
+use Prim.Native.Nat.{ℕ, suc, _≤_}
 use native.Mathlib.Omega.{arith}
 use lib.Dec.{eqb, eqb·suc-suc}
 use lib.ListN.{length}
-use borrow.Author.Tests.{eqb-true, eq-eqb}
-use Rattle.link.proofs.Bools.{clash, and-parts, and-both}
+use borrow.Author.Tests.{eqb-true}
+use Rattle.link.proofs.Bools.{clash, and-parts}
 use Rattle.search.specs.Steps.{Step, Rules}
-use Rattle.search.specs.Builds.{Sequence, last, onward, Build, done, earlierStep, earlier, notLater, sequences, leads, allGood, isWhole, First, first, nothing, firstOf, count, Out, found, none, counted, leastBuild}
-use Rattle.search.proofs.Orders.{Before, Sorted, not-itself, one-way}
+use Rattle.search.specs.Builds.{Sequence, last, onward, Build, done, earlierStep, earlier, notLater, sequences, leads, allGood}
+use Rattle.search.specs.Builds.{isWhole, First, first, nothing, firstOf, count, found, none, counted, leastBuild}
+use Rattle.search.proofs.Orders.{Sorted, not-itself, one-way}
 use Rattle.search.proofs.Sequences.{sequences-sorted, sequences-have, sequences-are}
 
 same-first : (a c : List Step) → first a ≡ first c → a ≡ c
@@ -23,16 +24,19 @@ module _ (f : List Step → Bool) where
   first-is [] q e = absurd (let z : _≡_ {A = ℕ} 0 1 = cc in omega arith)
   first-is (x ∷ qs) q e = go (f x) refl e (first-is qs q)
     where
-      go : (b : Bool) → f x ≡ b → cond b (first x) (firstOf f qs) ≡ first q → (firstOf f qs ≡ first q → List·Memᴰ q qs × (f q ≡ true)) → List·Memᴰ q (x ∷ qs) × (f q ≡ true)
+      go : (b : Bool) → f x ≡ b → cond b (first x) (firstOf f qs) ≡ first q → (firstOf f qs ≡ first q → List·Memᴰ q qs × (f q ≡ true))
+          → List·Memᴰ q (x ∷ qs) × (f q ≡ true)
       go true z w h = let v = same-first x q w in (List·Memᴰ·head (sym v), rw (← v) z)
       go false z w h = let v = h w in (List·Memᴰ·tail (v .0), v .1)
 
-  first-least : (qs : List (List Step)) (q : List Step) → Sorted earlier qs → firstOf f qs ≡ first q → (x : List Step) → List·Memᴰ x qs → f x ≡ true → notLater q x ≡ true
+  first-least : (qs : List (List Step)) (q : List Step) → Sorted earlier qs → firstOf f qs ≡ first q → (x : List Step) → List·Memᴰ x qs
+      → f x ≡ true → notLater q x ≡ true
   unfolding firstOf
   first-least [] q s e x m h = absurd (List·Memᴰ·not-nil m)
   first-least (y ∷ qs) q s e x m h = go (f y) refl e (List·Memᴰ·cases-cons m) (λ w. first-least qs q (s .1) w x)
     where
-      go : (b : Bool) → f y ≡ b → cond b (first y) (firstOf f qs) ≡ first q → (x ≡ y) ⊎ List·Memᴰ x qs → (firstOf f qs ≡ first q → List·Memᴰ x qs → f x ≡ true → notLater q x ≡ true) → notLater q x ≡ true
+      go : (b : Bool) → f y ≡ b → cond b (first y) (firstOf f qs) ≡ first q → (x ≡ y) ⊎ List·Memᴰ x qs
+          → (firstOf f qs ≡ first q → List·Memᴰ x qs → f x ≡ true → notLater q x ≡ true) → notLater q x ≡ true
       go true z w (inl g) i = let v = same-first y q w in rw (g, ← v, not-itself y)
       go true z w (inr g) i = let v = same-first y q w in rw (← v, one-way y x (s .0 x g))
       go false z w (inl g) i = clash (sym (ap f g) ∙ h) z
@@ -43,7 +47,8 @@ module _ (f : List Step → Bool) where
   none-first [] e x m h = List·Memᴰ·not-nil m
   none-first (y ∷ qs) e x m h = go (f y) refl e (List·Memᴰ·cases-cons m) (λ w. none-first qs w x)
     where
-      go : (b : Bool) → f y ≡ b → cond b (first y) (firstOf f qs) ≡ nothing → (x ≡ y) ⊎ List·Memᴰ x qs → (firstOf f qs ≡ nothing → List·Memᴰ x qs → f x ≡ true → ⊥) → ⊥
+      go : (b : Bool) → f y ≡ b → cond b (first y) (firstOf f qs) ≡ nothing → (x ≡ y) ⊎ List·Memᴰ x qs
+          → (firstOf f qs ≡ nothing → List·Memᴰ x qs → f x ≡ true → ⊥) → ⊥
       go true z w c i = let v : _≡_ {A = ℕ} 0 1 = cc in omega arith
       go false z w (inl g) i = clash (sym (ap f g) ∙ h) z
       go false z w (inr g) i = i w g h
@@ -53,7 +58,8 @@ module _ (r : Rules) where
   unfolding isWhole allGood
   whole-done s = refl
 
-  whole-onward : (u : ℕ) (s : List ℕ) (k : Step) (q : List Step) → r .good s k ≡ true → isWhole r u (r .put s k) q ≡ true → isWhole r (suc u) s (k ∷ q) ≡ true
+  whole-onward : (u : ℕ) (s : List ℕ) (k : Step) (q : List Step) → r .good s k ≡ true → isWhole r u (r .put s k) q ≡ true
+      → isWhole r (suc u) s (k ∷ q) ≡ true
   unfolding isWhole allGood
   whole-onward u s k q g e = rw (eqb·suc-suc (length q) u, g) e
 
@@ -62,7 +68,8 @@ module _ (r : Rules) where
   build-is-whole {s = s} done = whole-done s
   build-is-whole (onward {u = u} {s = s} {k = k} {q = q} m g b) = whole-onward u s k q g (build-is-whole b)
 
-  sequence-of : {u : ℕ} {s : List ℕ} {k : Step} {q : List Step} → List·Memᴰ k (r .steps s) → r .good s k ≡ true → Build r u (r .put s k) q → Sequence r s (k ∷ q) × (length (k ∷ q) ≤ suc u)
+  sequence-of : {u : ℕ} {s : List ℕ} {k : Step} {q : List Step} → List·Memᴰ k (r .steps s) → r .good s k ≡ true → Build r u (r .put s k) q
+      → Sequence r s (k ∷ q) × (length (k ∷ q) ≤ suc u)
   sequence-of m g done = (last m, omega arith)
   sequence-of m g (onward n h b) = let w = sequence-of n h b in (onward m g (w .0), omega (arith, w .1))
 
@@ -70,7 +77,8 @@ module _ (r : Rules) where
   build-in done = List·Memᴰ·head refl
   build-in (onward {u = u} m g b) = let w = sequence-of m g b in List·Memᴰ·tail (sequences-have r (suc u) (w .0) (w .1))
 
-  good-parts : (s : List ℕ) (k : Step) (q : List Step) → allGood r s (k ∷ q) ≡ true → (r .good s k ≡ true) × (allGood r (r .put s k) q ≡ true)
+  good-parts : (s : List ℕ) (k : Step) (q : List Step) → allGood r s (k ∷ q) ≡ true
+      → (r .good s k ≡ true) × (allGood r (r .put s k) q ≡ true)
   unfolding allGood
   good-parts s k q e = and-parts (r .good s k) (allGood r (r .put s k) q) e
 
@@ -85,7 +93,8 @@ module _ (r : Rules) where
   whole-is-build : (u : ℕ) (s : List ℕ) (q : List Step) → List·Memᴰ q ([] ∷ sequences r u s) → isWhole r u s q ≡ true → Build r u s q
   whole-is-build u s q m e =
       let w = whole-parts u s q e in
-      subst (λ (x : ℕ). Build r x s q) (w .0) (⊎-elim (λ z. rw z done) (λ h. build-of (sequences-are r u s q h .0) (w .1)) (List·Memᴰ·cases-cons m))
+      subst (λ (x : ℕ). Build r x s q) (w .0) (⊎-elim (λ z. rw z done) (λ h. build-of (sequences-are r u s q h .0) (w .1))
+      (List·Memᴰ·cases-cons m))
 
   -- "the least whole build", and its tests: "the non-empty step sequences .. which are not later than the answer's build"
   pub record IsLeast (u : ℕ) (s s′ : List ℕ) (t : ℕ) : Type 0 where
@@ -113,7 +122,8 @@ module _ (r : Rules) where
             record {
               steps = q;
               whole = whole-is-build u s q (w .0) (w .1);
-              least = λ x b. first-least (isWhole r u s) ([] ∷ sequences r u s) q (sequences-sorted r sorted u s) h x (build-in b) (build-is-whole b);
+              least = λ x b. first-least (isWhole r u s) ([] ∷ sequences r u s) q (sequences-sorted r sorted u s) h x (build-in b)
+                  (build-is-whole b);
               offsets = v .0;
               tests = v .1;
             }
@@ -126,6 +136,7 @@ module _ (r : Rules) where
         same-none : (n m : ℕ) → none n ≡ none m → n ≡ m
         same-none n m h = cc
 
-        go : (x : First) → firstOf (isWhole r u s) ([] ∷ sequences r u s) ≡ x → counted r u s x ≡ none t → ((x : List Step) → Build r u s x → ⊥) × (length (sequences r u s) ≡ t)
+        go : (x : First) → firstOf (isWhole r u s) ([] ∷ sequences r u s) ≡ x → counted r u s x ≡ none t
+            → ((x : List Step) → Build r u s x → ⊥) × (length (sequences r u s) ≡ t)
         go (first q) h g = absurd (let z : _≡_ {A = ℕ} 0 1 = cc in omega arith)
         go nothing h g = (λ x b. none-first (isWhole r u s) ([] ∷ sequences r u s) h x (build-in b) (build-is-whole b), same-none _ _ g)

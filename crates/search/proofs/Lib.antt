@@ -20,3 +20,9 @@ pub mod Trying
 pub mod Looping
 pub mod Planning
 pub mod Judging
+pub mod Reading
+pub mod Verdicts
+pub mod Thinning
+pub mod Meaning
+pub mod Promises
+pub mod Worked

@@ -1,17 +1,18 @@
 -- The list of steps holds just the steps, in their order. Assumes nothing.
-use mathlib.Core.Path.{_≡_, refl, sym, ap, _∙_}
-use mathlib.Core.Logic.{_⊎_, inl, inr, ⊎-elim}
+use mathlib.Core.Path.{_≡_, refl}
+use mathlib.Core.Logic.{⊎-elim}
 use mathlib.Core.Bool.{Bool, true, false, _&&_, not, cond}
-use mathlib.Core.List.{List, [], _∷_, _++_, List·Memᴰ, List·Memᴰ·head, List·Memᴰ·tail, List·Memᴰ·cases-cons, List·Memᴰ·not-nil, List·Memᴰ·append-cases, Memᴰ·append-left, Memᴰ·append-right}
+use mathlib.Core.List.{List, [], _∷_, List·Memᴰ, List·Memᴰ·head, List·Memᴰ·tail, List·Memᴰ·cases-cons, List·Memᴰ·not-nil}
+use mathlib.Core.List.{List·Memᴰ·append-cases, Memᴰ·append-left, Memᴰ·append-right}
 use Prim.Native.Nat.{ℕ, zero, suc, _+_, _<_, _≤_}
 use native.Mathlib.Omega.{arith}
 use lib.Dec.{ltb}
 use borrow.Author.Tests.{lt-ltb, ltb-true, not-true}
 use Rattle.link.specs.Rows.{Crossing, one, two}
-use Rattle.link.proofs.Bools.{clash, lt-or-ge, and-parts, and-both}
+use Rattle.link.proofs.Bools.{lt-or-ge, and-parts}
 use Rattle.search.specs.Steps.{Step, step, placed, from, besides, rowSteps, steps, isStep}
 use Rattle.search.specs.Builds.{earlierStep}
-use Rattle.search.proofs.Orders.{Before, Sorted, sorted-append, sorted-one, row-first, beside-first, crossing-first}
+use Rattle.search.proofs.Orders.{Sorted, sorted-append, sorted-one, row-first, beside-first, crossing-first}
 
 module _ {A : Type 0} (f : ℕ → List A) where
   pub in-from : (a m i : ℕ) (x : A) → a ≤ i → i < a + m → List·Memᴰ x (f i) → List·Memᴰ x (from f a m)
@@ -28,7 +29,8 @@ module _ {A : Type 0} (f : ℕ → List A) where
       ⊎-elim (λ q. (a, omega arith, omega arith, q))
       (λ q. let w = from-in (suc a) m x q in (w .0, omega (arith, w .1), omega (arith, w .2), w .3)) (List·Memᴰ·append-cases (f a) e)
 
-  pub from-sorted : (lt : A → A → Bool) → ((i : ℕ) → Sorted lt (f i)) → ((i j : ℕ) → i < j → (x y : A) → List·Memᴰ x (f i) → List·Memᴰ y (f j) → lt x y ≡ true)
+  pub from-sorted : (lt : A → A → Bool) → ((i : ℕ) → Sorted lt (f i))
+      → ((i j : ℕ) → i < j → (x y : A) → List·Memᴰ x (f i) → List·Memᴰ y (f j) → lt x y ≡ true)
       → (a m : ℕ) → Sorted lt (from f a m)
   unfolding from
   from-sorted lt s h a zero = tt
@@ -55,7 +57,8 @@ module _ (p : ℕ) (s : List ℕ) (j : ℕ) where
       go : (b : Bool) → placed p s i ≡ b → List·Memᴰ k (cond b (step j i one ∷ step j i two ∷ []) []) → Beside i k
       go true e h =
           ⊎-elim (λ q. record { crossed = one; is = q; there = e })
-          (λ q. ⊎-elim (λ r. record { crossed = two; is = r; there = e }) (λ r. absurd (List·Memᴰ·not-nil r)) (List·Memᴰ·cases-cons q)) (List·Memᴰ·cases-cons h)
+          (λ q. ⊎-elim (λ r. record { crossed = two; is = r; there = e }) (λ r. absurd (List·Memᴰ·not-nil r)) (List·Memᴰ·cases-cons q))
+          (List·Memᴰ·cases-cons h)
       go false e h = absurd (List·Memᴰ·not-nil h)
 
   beside-sorted : (i : ℕ) → Sorted earlierStep (besides p s j i)
@@ -63,11 +66,14 @@ module _ (p : ℕ) (s : List ℕ) (j : ℕ) where
   beside-sorted i = go (placed p s i)
     where
       go : (b : Bool) → Sorted earlierStep (cond b (step j i one ∷ step j i two ∷ []) [])
-      go true =
-          (λ y m. ⊎-elim (λ q. rw q (crossing-first j i)) (λ q. absurd (List·Memᴰ·not-nil q)) (List·Memᴰ·cases-cons m), sorted-one earlierStep (step j i two))
+      go true = (
+        λ y m. ⊎-elim (λ q. rw q (crossing-first j i)) (λ q. absurd (List·Memᴰ·not-nil q)) (List·Memᴰ·cases-cons m),
+        sorted-one earlierStep (step j i two),
+      )
       go false = tt
 
-  besides-apart : (i l : ℕ) → i < l → (x y : Step) → List·Memᴰ x (besides p s j i) → List·Memᴰ y (besides p s j l) → earlierStep x y ≡ true
+  besides-apart : (i l : ℕ) → i < l → (x y : Step) → List·Memᴰ x (besides p s j i) → List·Memᴰ y (besides p s j l)
+      → earlierStep x y ≡ true
   besides-apart i l h x y a b =
       let u = in-beside i x a in
       let v = in-beside l y b in
@@ -117,7 +123,8 @@ module _ (p n : ℕ) (s : List ℕ) where
       let a : k .row < n = ltb-true _ _ (u .0) in
       let b : k .beside < n = ltb-true _ _ (u .1) in
       in-from (rowSteps p n s) 0 n (k .row) k (omega arith) (omega arith)
-      (rw (not-true (placed p s (k .row)) (v .0)) (in-from (besides p s (k .row)) 0 n (k .beside) k (omega arith) (omega arith) (beside-in p s (k .row) (k .beside) (k .crossing) (v .1))))
+      (rw (not-true (placed p s (k .row)) (v .0)) (in-from (besides p s (k .row)) 0 n (k .beside) k (omega arith) (omega arith)
+      (beside-in p s (k .row) (k .beside) (k .crossing) (v .1))))
 
   pub steps-are : (k : Step) → List·Memᴰ k (steps p n s) → isStep p n s k ≡ true
   unfolding steps isStep

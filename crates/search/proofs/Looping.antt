@@ -1,16 +1,17 @@
 -- The loop over the candidates: an answer to what is left is an answer to the whole. Assumes nothing.
-use mathlib.Core.Path.{_≡_, refl, sym, ap, _∙_, subst}
-use mathlib.Core.Bool.{Bool, true, false, cond}
+use mathlib.Core.Path.{_≡_, refl, ap, _∙_}
+use mathlib.Core.Bool.{true}
 use mathlib.Core.List.{List, [], _∷_}
-use Prim.Native.Nat.{ℕ, zero, suc, _+_, _-_, _*_, _<_, _≤_}
+use Prim.Native.Nat.{ℕ, suc, _+_, _-_, _*_, _<_, _≤_}
 use native.Mathlib.Omega.{arith}
 use Rattle.link.specs.Limits.{maxRows}
 use Rattle.search.specs.Steps.{Step, Rules, rules, steps, isStep}
-use Rattle.search.specs.Builds.{Out, found, none}
-use Rattle.search.specs.Search.{more, orElse, tried, walk, deep, Answered, Table, Starts, stepAt, Next}
+use Rattle.search.specs.Builds.{Out, none}
+use Rattle.search.specs.Numbering.{stepAt, Next}
+use Rattle.search.specs.Search.{more, orElse, tried, walk, deep, Answered, Table, Starts}
 use Rattle.search.specs.declared.Hunt.{Hunt}
 use Rattle.search.specs.declared.Hunt.the-variants.{Found, Nothing, Spent}
-use Rattle.search.proofs.Answering.{ended, all-placed, broke, spent-more, is-nothing, is-spent, or-found, or-spent, or-next}
+use Rattle.search.proofs.Answering.{ended, all-placed, broke, more-or, is-nothing, is-spent, or-found, or-spent, or-next}
 use Rattle.search.proofs.Numbers.{stepsFrom, none-from, step-from, next-from, all-from}
 
 pub whole : (r : Rules) (v : ℕ) (s : List ℕ) (l : ℕ) → v ≡ 0 → Answered l s (deep r v s) (Found l) s
@@ -51,7 +52,8 @@ module _ (p l : ℕ) (ds : List ℕ) (n : ℕ) (t : Table p l ds n) (v : ℕ) (s
   unfolding walk
   walk-none ks e = rw (e, walk)
 
-  walk-step : (k : Step) (ks ms : List Step) → ms ≡ k ∷ ks → walk (rules p l ds n) d s ms ≡ more 1 (orElse (tried (rules p l ds n) d s k) (walk (rules p l ds n) d s ks))
+  walk-step : (k : Step) (ks ms : List Step) → ms ≡ k ∷ ks
+      → walk (rules p l ds n) d s ms ≡ more 1 (orElse (tried (rules p l ds n) d s k) (walk (rules p l ds n) d s ks))
   unfolding walk
   walk-step k ks ms e = rw (e, walk)
 
@@ -69,27 +71,36 @@ module _ (p l : ℕ) (ds : List ℕ) (n : ℕ) (t : Table p l ds n) (v : ℕ) (s
       pub is-broke : left ≡ 0 → Answered budget s (deep (rules p l ds n) v s) Spent xs
       is-broke z = g .rest Spent xs (rw (walk-step (stepAt k) (stepsFrom p n s (k + 1)) _ from-here, g .same) (broke left s _ z))
 
-      module _ (z : left ≡ 0 → ⊥) (s′ : List ℕ) where
-        counted : (h : Hunt) (s″ : List ℕ) → Answered (left - 1) s (orElse (tried (rules p l ds n) d s (stepAt k)) later) h s″ → Answered budget s (deep (rules p l ds n) v s) h s″
-        counted h s″ a = g .rest h s″ (rw (walk-step (stepAt k) (stepsFrom p n s (k + 1)) _ from-here) (spent-more left 1 s _ h s″ (omega arith) a))
+      abbrev here : List ℕ → Out
+      here x = more 1 (tried (rules p l ds n) d x (stepAt k))
 
-        pub one-finds : (m : ℕ) → Answered (left - 1) xs (tried (rules p l ds n) d xs (stepAt k)) (Found m) s′ → Answered budget s (deep (rules p l ds n) v s) (Found m) s′
-        one-finds m a = counted (Found m) s′ (or-found (left - 1) s s′ _ later m (rw (g .same) at a))
+      -- what the candidate at hand and the later ones say is what all say
+      both : (h : Hunt) (s″ : List ℕ) → Answered left s (orElse (here s) later) h s″ → Answered budget s (deep (rules p l ds n) v s) h s″
+      both h s″ a = g .rest h s″ (rw (
+        walk-step (stepAt k) (stepsFrom p n s (k + 1)) _ from-here,
+        ← more-or 1
+            (tried (rules p l ds n) d s (stepAt k)) later,
+      ) a)
 
-        pub one-runs-out : Answered (left - 1) xs (tried (rules p l ds n) d xs (stepAt k)) Spent s′ → Answered budget s (deep (rules p l ds n) v s) Spent s′
+      module _ (s′ : List ℕ) where
+        pub one-finds : (m : ℕ) → Answered left xs (here xs) (Found m) s′ → Answered budget s (deep (rules p l ds n) v s) (Found m) s′
+        one-finds m a = both (Found m) s′ (or-found left s s′ (here s) later m (rw (g .same) at a))
+
+        pub one-runs-out : Answered left xs (here xs) Spent s′ → Answered budget s (deep (rules p l ds n) v s) Spent s′
         one-runs-out a =
             let b = rw (g .same) at a in
-            rw (is-spent (left - 1) s s′ _ b .1) (counted Spent s (or-spent (left - 1) s s′ _ later b))
+            rw (is-spent left s s′ (here s) b .1) (both Spent s (or-spent left s s′ (here s) later b))
 
-        pub one-in-vain : (m : ℕ) (ys′ : List ℕ) (k′ : ℕ) → Answered (left - 1) xs (tried (rules p l ds n) d xs (stepAt k)) (Nothing m) s′ → Starts p ds n s′ ys′ → Next p n s′ (k + 1) k′
+        pub one-in-vain : (m : ℕ) (ys′ : List ℕ) (k′ : ℕ) → Answered left xs (here xs) (Nothing m) s′ → Starts p ds n s′ ys′
+            → Next p n s′ (k + 1) k′
             → Going p l ds n v budget s s′ ys′ m k′
         one-in-vain m ys′ k′ a st x =
-            let b : Answered (left - 1) s (tried (rules p l ds n) d s (stepAt k)) (Nothing m) s′ = rw (g .same) at a in
-            let e : s′ ≡ s = is-nothing (left - 1) s s′ _ m b .4 in
+            let b : Answered left s (here s) (Nothing m) s′ = rw (g .same) at a in
+            let e : s′ ≡ s = is-nothing left s s′ (here s) m b .4 in
             record {
               same = e;
               starts = st;
               high = x .high;
               lands = x .lands;
-              rest = λ h s″ c. counted h s″ (or-next (left - 1) s s′ _ later m h s″ b (rw (next-from p n s (k + 1) k′ (rw e at x)) c));
+              rest = λ h s″ c. both h s″ (or-next left s s′ (here s) later m h s″ b (rw (next-from p n s (k + 1) k′ (rw e at x)) c));
             }

@@ -1,12 +1,12 @@
 -- What a move by one slot does to two starts that are apart, and where a step puts its row. Assumes nothing.
 use mathlib.Core.Path.{_≡_, refl, sym, ap, _∙_}
-use mathlib.Core.Logic.{_⊎_, inl, inr, ⊎-elim}
-use mathlib.Core.Bool.{Bool, true, false, not}
-use Prim.Native.Nat.{ℕ, zero, suc, _+_, _-_, _%_, _<_, _≤_}
+use mathlib.Core.Logic.{_⊎_, inl, inr}
+use mathlib.Core.Bool.{false, not}
+use Prim.Native.Nat.{ℕ, suc, _+_, _-_, _%_, _<_, _≤_}
 use native.Mathlib.Omega.{arith}
 use native.Mathlib.Nat.{mod-lt, mod-eq-of-lt, mod-add-mod, add-mod-mod, add-mod-right, suc-mod}
 use borrow.Author.Tests.{not-false}
-use Rattle.link.specs.Slots.{gap, meets, Meet, apartb}
+use Rattle.link.specs.Slots.{meets, Meet, apartb}
 use Rattle.link.specs.Rows.{Crossing, one, two, second, startAt}
 use Rattle.link.proofs.Bools.{clash, is-false}
 use Rattle.link.proofs.Circle.{Apart, Turned, turned, apart-parts, apart-true, meets-apart, meets-true, meets-slot}
@@ -59,7 +59,8 @@ module _ (p : ℕ) (some : 0 < p) where
   there-and-back d x =
       let l = mod-lt d some in
       let e : x + d % p + (p - d % p) ≡ x + p = omega arith in
-      ap (λ (y : ℕ). (y + (p - d % p)) % p) (sym (add-mod-mod x d p)) ∙ mod-add-mod (x + d % p) p (p - d % p) ∙ ap (λ (y : ℕ). y % p) e ∙ add-mod-right x p
+      ap (λ (y : ℕ). (y + (p - d % p)) % p) (sym (add-mod-mod x d p)) ∙ mod-add-mod (x + d % p) p (p - d % p) ∙ ap (λ (y : ℕ). y % p) e
+      ∙ add-mod-right x p
 
   back-and-there : (d x : ℕ) → ((x + (p - d % p)) % p + d) % p ≡ x % p
   back-and-there d x =

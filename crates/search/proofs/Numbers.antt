@@ -1,5 +1,5 @@
--- A number stands for a step, and the numbers keep the order of the steps: the steps there are, in their order, are those of the numbers 0, 1, ..
--- Nothing above this file looks at the numbers. Assumes nothing.
+-- A number stands for a step, and the numbers keep the order of the steps: the steps there are, in their order, are those of the
+-- numbers 0, 1, .. Nothing above this file looks at the numbers. Assumes nothing.
 use mathlib.Core.Path.{_≡_, refl, sym, ap, _∙_}
 use mathlib.Core.Logic.{⊎-elim}
 use mathlib.Core.Bool.{Bool, true, false, _&&_, not, cond}
@@ -15,7 +15,7 @@ use Rattle.link.specs.Limits.{maxRows}
 use Rattle.link.specs.Rows.{one, two, second, start}
 use Rattle.link.proofs.Bools.{lt-or-ge, and-parts}
 use Rattle.search.specs.Steps.{Step, step, placed, from, besides, rowSteps, steps, puts, offsetOf, after, isStep}
-use Rattle.search.specs.Search.{crossingAt, stepAt, Next}
+use Rattle.search.specs.Numbering.{stepAt, Next}
 
 and-no : (x : Bool) → (x && false) ≡ false
 and-no true = refl
@@ -34,7 +34,8 @@ module _ (p n : ℕ) (s : List ℕ) (k : ℕ) where
   unfolding isStep stepAt placed
   beside-free h = simp (le-ltb (getD s (k / 2 % maxRows) 0) p h, and-no)
 
-  pub is-step : k / (2 * maxRows) < n → k / 2 % maxRows < n → p ≤ getD s (k / (2 * maxRows)) 0 → getD s (k / 2 % maxRows) 0 < p → isStep p n s (stepAt k) ≡ true
+  pub is-step : k / (2 * maxRows) < n → k / 2 % maxRows < n → p ≤ getD s (k / (2 * maxRows)) 0 → getD s (k / 2 % maxRows) 0 < p
+      → isStep p n s (stepAt k) ≡ true
   unfolding isStep stepAt placed
   is-step a b c d = rw (lt-ltb _ n a, lt-ltb _ n b, le-ltb _ p c, lt-ltb _ p d)
 
@@ -68,7 +69,13 @@ names p n s k e =
     let w = and-parts (ltb (k .row) n && ltb (k .beside) n) (not (ltb (getD s (k .row) 0) p) && ltb (getD s (k .beside) 0) p) e in
     let u = and-parts (ltb (k .row) n) (ltb (k .beside) n) (w .0) in
     let v = and-parts (not (ltb (getD s (k .row) 0) p)) (ltb (getD s (k .beside) 0) p) (w .1) in
-    record { row-low = ltb-true _ _ (u .0); beside-low = ltb-true _ _ (u .1); row-free = ltb-false _ _ (not-true _ (v .0)); beside-placed = ltb-true _ _ (v .1) }
+    record {
+      row-low = ltb-true _ _ (u .0);
+      beside-low = ltb-true _ _ (u .1);
+      row-free = ltb-false _ _
+          (not-true _ (v .0));
+      beside-placed = ltb-true _ _ (v .1);
+    }
 
 pub names-at : (p n : ℕ) (s : List ℕ) (k : ℕ) → isStep p n s (stepAt k) ≡ true → Names p n s (k / (2 * maxRows)) (k / 2 % maxRows)
 unfolding stepAt
@@ -79,7 +86,8 @@ module _ (p l : ℕ) (ds s : List ℕ) (k : ℕ) where
   unfolding puts offsetOf after start second stepAt
   puts-one e = rw e
 
-  pub puts-two : (k % 2 ≡ 0 → ⊥) → getD ds (k / (2 * maxRows)) 0 < p → (x y z : ℕ) → x ≡ second p (getD ds (k / 2 % maxRows) 0) (getD s (k / 2 % maxRows) 0)
+  pub puts-two : (k % 2 ≡ 0 → ⊥) → getD ds (k / (2 * maxRows)) 0 < p → (x y z : ℕ)
+      → x ≡ second p (getD ds (k / 2 % maxRows) 0) (getD s (k / 2 % maxRows) 0)
       → y ≡ second p l x → z ≡ second p (p - getD ds (k / (2 * maxRows)) 0) y → z ≡ puts p l ds s (stepAt k)
   unfolding puts offsetOf after start second stepAt
   puts-two o h x y z ex ey ez = let e : k % 2 ≡ 1 = omega arith in rw (e, mod-eq-of-lt h, ← ex, ← ey) ez
@@ -100,7 +108,8 @@ module _ (p n : ℕ) (s : List ℕ) where
   unfolding stepsFrom from
   one-from k h = let e : n * (2 * maxRows) - k ≡ suc (n * (2 * maxRows) - suc k) = omega arith in rw (e, from)
 
-  pub step-from : (k : ℕ) → k < n * (2 * maxRows) → isStep p n s (stepAt k) ≡ true → stepsFrom p n s k ≡ stepAt k ∷ stepsFrom p n s (k + 1)
+  pub step-from : (k : ℕ) → k < n * (2 * maxRows) → isStep p n s (stepAt k) ≡ true
+      → stepsFrom p n s k ≡ stepAt k ∷ stepsFrom p n s (k + 1)
   unfolding numbered
   step-from k h e = rw (one-from k h, e, add-one)
 
@@ -109,7 +118,8 @@ module _ (p n : ℕ) (s : List ℕ) where
   skip-from k zero h f = let e : k + 0 ≡ k = omega arith in rw e
   skip-from k (suc d) h f =
       let e : suc k + d ≡ k + suc d = omega arith in
-      rw (one-from k (omega arith), f k (omega arith) (omega arith), ← e) (skip-from (suc k) d (omega arith) (λ i a b. f i (omega arith) (omega arith)))
+      rw (one-from k (omega arith), f k (omega arith) (omega arith), ← e)
+      (skip-from (suc k) d (omega arith) (λ i a b. f i (omega arith) (omega arith)))
 
   pub next-from : (k m : ℕ) → Next p n s k m → stepsFrom p n s k ≡ stepsFrom p n s m
   next-from k m x =

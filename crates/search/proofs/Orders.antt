@@ -1,11 +1,12 @@
--- Lists that strictly increase; and the order of steps: of two steps one is earlier, or they are the same, whatever follows. Assumes nothing.
-use mathlib.Core.Path.{_≡_, refl, sym, ap, _∙_}
-use mathlib.Core.Logic.{_⊎_, inl, inr, ⊎-elim}
-use mathlib.Core.Bool.{Bool, true, false, _&&_, _||_, not, cond}
-use mathlib.Core.List.{List, [], _∷_, _++_, map, List·Memᴰ, List·Memᴰ·head, List·Memᴰ·tail, List·Memᴰ·cases-cons, List·Memᴰ·not-nil, List·Memᴰ·append-cases}
-use Prim.Native.Nat.{ℕ, _<_, _≤_}
+-- Lists that strictly increase; and the order of steps: of two steps one is earlier, or they are the same, whatever follows.
+-- Assumes nothing.
+use mathlib.Core.Path.{_≡_, refl, sym, _∙_}
+use mathlib.Core.Logic.{⊎-elim}
+use mathlib.Core.Bool.{Bool, true, false}
+use mathlib.Core.List.{List, [], _∷_, _++_, List·Memᴰ, List·Memᴰ·head, List·Memᴰ·tail, List·Memᴰ·not-nil}
+use mathlib.Core.List.{List·Memᴰ·append-cases}
+use Prim.Native.Nat.{ℕ, _<_}
 use native.Mathlib.Omega.{arith}
-use lib.Dec.{ltb, eqb}
 use borrow.Author.Tests.{lt-ltb, le-ltb, eq-eqb, ne-eqb}
 use Rattle.link.specs.Rows.{Crossing, one, two}
 use Rattle.link.proofs.Bools.{clash, lt-or-ge}
@@ -59,7 +60,8 @@ last a b h t = rw (le-ltb a b (omega arith), ne-eqb a b (omega arith))
 way-numbers : (a b : ℕ) → Way (order a b) (order b a)
 way-numbers a b =
     ⊎-elim (λ l. ahead (first a b l) (last b a l))
-    (λ g. ⊎-elim (λ l. behind (last a b l) (first b a l)) (λ e. level (same a b (omega arith)) (same b a (omega arith))) (lt-or-ge b a)) (lt-or-ge a b)
+    (λ g. ⊎-elim (λ l. behind (last a b l) (first b a l)) (λ e. level (same a b (omega arith)) (same b a (omega arith))) (lt-or-ge b a))
+    (lt-or-ge a b)
 
 way : (k m : Step) → Way (orderSteps k m) (orderSteps m k)
 unfolding orderSteps
@@ -105,10 +107,12 @@ pub row-first : (k m : Step) → k .row < m .row → earlierStep k m ≡ true
 unfolding orderSteps
 row-first k m h = first (k .row) (m .row) h _
 
-pub beside-first : (j i l : ℕ) (c d : Crossing) → i < l → earlierStep (record { row = j; beside = i; crossing = c }) (record { row = j; beside = l; crossing = d }) ≡ true
+pub beside-first : (j i l : ℕ) (c d : Crossing) → i < l
+    → earlierStep (record { row = j; beside = i; crossing = c }) (record { row = j; beside = l; crossing = d }) ≡ true
 unfolding orderSteps
 beside-first j i l c d h = same j j refl _ ∙ first i l h _
 
-pub crossing-first : (j i : ℕ) → earlierStep (record { row = j; beside = i; crossing = one }) (record { row = j; beside = i; crossing = two }) ≡ true
+pub crossing-first : (j i : ℕ) → earlierStep (record { row = j; beside = i; crossing = one })
+    (record { row = j; beside = i; crossing = two }) ≡ true
 unfolding orderSteps
 crossing-first j i = same j j refl _ ∙ same i i refl _ ∙ first 1 2 (omega arith) _

@@ -1,12 +1,10 @@
 -- From the search to the answer. Assumes nothing.
-use mathlib.Core.Path.{_≡_, refl, sym, ap, _∙_}
-use mathlib.Core.Bool.{Bool, true, false, cond}
+use mathlib.Core.Path.{_≡_, sym, ap, _∙_}
 use mathlib.Core.List.{List, _∷_, _++_}
 use Prim.Native.Nat.{ℕ, zero, suc, _+_, _-_, _%_, _<_, _≤_}
 use native.Mathlib.Omega.{arith}
 use native.Mathlib.Nat.{mod-lt, mod-eq-of-lt}
-use lib.Dec.{ltb}
-use lib.ListN.{length, getD, set, take, drop, replicate, length-replicate, getD-replicate}
+use lib.ListN.{length, getD, take, drop, replicate, length-replicate, getD-replicate}
 use lib.Seq.{length-take-le}
 use borrow.Author.Tests.{lt-ltb, le-ltb}
 use Rattle.link.specs.Limits.{maxRows, noBuild, budgetSpent}
@@ -14,10 +12,9 @@ use Rattle.link.specs.Range.{GoodTable}
 use Rattle.link.specs.Rows.{spanOf, second}
 use Rattle.link.specs.declared.Link.{Link}
 use Rattle.search.specs.Steps.{Rules, rules}
-use Rattle.search.specs.Builds.{Out, found, none, begin, planned}
+use Rattle.search.specs.Builds.{Out, found, none, begin, planned, rulesOf}
 use Rattle.search.specs.Answer.{plan, nothing, spent, says, gives, within, outcome}
 use Rattle.search.specs.Search.{deep, Answered, Table, Starts}
-use Rattle.search.specs.declared.Hunt.{Hunt}
 use Rattle.search.specs.declared.Hunt.the-variants.{Found, Nothing, Spent}
 use Rattle.search.proofs.Answering.{is-found, is-nothing, is-spent, tests}
 use Rattle.search.proofs.Counting.{deep-least}
@@ -25,30 +22,42 @@ use Rattle.search.proofs.Listing.{steps-sorted}
 use Rattle.search.proofs.Reducing.{rules-same}
 
 -- the search starts right: row 0 stands at 0, and its second start is its delay
-pub begin-starts : (p : ℕ) (ts : List ℕ) (n : ℕ) → n ≤ maxRows → getD ts 0 0 < p → Starts p ts n (begin p) (getD ts 0 0 ∷ replicate (maxRows - 1) 0)
+pub begin-starts : (p : ℕ) (ts : List ℕ) (n : ℕ) → n ≤ maxRows → getD ts 0 0 < p
+    → Starts p ts n (begin p) (getD ts 0 0 ∷ replicate (maxRows - 1) 0)
 unfolding second
 begin-starts p ts n h l =
-    record { xs-length = ap suc (length-replicate (maxRows - 1) p); ys-length = ap suc (length-replicate {A = ℕ} (maxRows - 1) 0); seconds = at }
+    record {
+      xs-length = ap suc (length-replicate (maxRows - 1) p);
+      ys-length = ap suc
+          (length-replicate {A = ℕ} (maxRows - 1) 0);
+      seconds = at;
+    }
   where
-    at : (i : ℕ) → i < n → getD (begin p) i 0 < p → getD (getD ts 0 0 ∷ replicate (maxRows - 1) 0) i 0 ≡ second p (getD ts i 0) (getD (begin p) i 0)
+    at : (i : ℕ) → i < n → getD (begin p) i 0 < p → getD (getD ts 0 0 ∷ replicate (maxRows - 1) 0) i 0
+        ≡ second p (getD ts i 0) (getD (begin p) i 0)
     at zero a b = let e : 0 + getD ts 0 0 ≡ getD ts 0 0 = omega arith in sym (ap (λ (x : ℕ). x % p) e ∙ mod-eq-of-lt l)
     at (suc i) a b = absurd (omega (arith, getD-replicate {A = ℕ} (maxRows - 1) i p 0 (omega arith)))
 
-module _ (k : Link) (l : ℕ) (e : l ≡ spanOf k) (ds ts : List ℕ) (g : GoodTable k ds) (same : (i : ℕ) → getD ts i 0 ≡ getD ds i 0 % k .period) where
+module _ (k : Link) (l : ℕ) (e : l ≡ spanOf k) (ds ts : List ℕ) (g : GoodTable k ds)
+    (same : (i : ℕ) → getD ts i 0 ≡ getD ds i 0 % k .period) where
   pub low-delays : (i : ℕ) → getD ts i 0 < k .period
   low-delays i = rw (same i) (mod-lt (getD ds i 0) (g .period-low))
 
   pub turns-table : Table (k .period) l ts (length ds)
-  turns-table = rw e (record { period = g .period-high; some-span = g .span-low; span = g .span-high; rows = g .rows-high; delays = low-delays })
+  turns-table =
+      rw e
+      (record { period = g .period-high; some-span = g .span-low; span = g .span-high; rows = g .rows-high; delays = low-delays })
 
-  pub is-planned : deep (rules (k .period) l ts (length ds)) (length ds - 1) (begin (k .period)) ≡ planned (k .period) (spanOf k) ds
+  pub is-planned : deep (rules (k .period) l ts (length ds)) (length ds - 1) (begin (k .period)) ≡ planned k ds
   is-planned =
-      ap (λ (r : Rules). deep r (length ds - 1) (begin (k .period))) (rules-same (k .period) l ds ts same (length ds) ∙ ap (λ (x : ℕ). rules (k .period) x ds (length ds)) e)
-      ∙ deep-least (rules (k .period) (spanOf k) ds (length ds)) (steps-sorted (k .period) (length ds)) (length ds - 1) (begin (k .period))
+      ap (λ (r : Rules). deep r (length ds - 1) (begin (k .period)))
+      (rules-same (k .period) l ds ts same (length ds) ∙ ap (λ (x : ℕ). rules (k .period) x ds (length ds)) e)
+      ∙ deep-least (rulesOf k ds) (steps-sorted (k .period) (length ds)) (length ds - 1) (begin (k .period))
 
 -- what the code says of the search is what the paper says
 module _ (budget n : ℕ) (old s s′ : List ℕ) (o : Out) where
-  pub found-outcome : (left : ℕ) → Answered budget s o (Found left) s′ → outcome budget n old o ≡ gives (says plan 0 0 (budget - left)) (take n s′ ++ drop n old)
+  pub found-outcome : (left : ℕ) → Answered budget s o (Found left) s′
+      → outcome budget n old o ≡ gives (says plan 0 0 (budget - left)) (take n s′ ++ drop n old)
   unfolding outcome within
   found-outcome left a =
       let w = is-found budget s s′ o left a in
@@ -56,7 +65,8 @@ module _ (budget n : ℕ) (old s s′ : List ℕ) (o : Out) where
       let e : budget - left ≡ t = omega (arith, w .2, w .3) in
       rw (w .1, le-ltb budget t (w .2), e)
 
-  pub nothing-outcome : (left : ℕ) → Answered budget s o (Nothing left) s′ → outcome budget n old o ≡ gives (says nothing noBuild 0 (budget - left)) old
+  pub nothing-outcome : (left : ℕ) → Answered budget s o (Nothing left) s′
+      → outcome budget n old o ≡ gives (says nothing noBuild 0 (budget - left)) old
   unfolding outcome within
   nothing-outcome left a =
       let w = is-nothing budget s s′ o left a in
@@ -75,5 +85,6 @@ module _ (budget n : ℕ) (old s s′ : List ℕ) (o : Out) where
 pub in-array : {n m : ℕ} → m ≡ maxRows → n ≤ maxRows → n ≤ m
 in-array e h = omega arith
 
-pub copied-out : (n : ℕ) (xs old new : List ℕ) → length xs ≡ maxRows → n ≤ maxRows → new ≡ take n xs ++ drop (length (take n xs)) old → new ≡ take n xs ++ drop n old
+pub copied-out : (n : ℕ) (xs old new : List ℕ) → length xs ≡ maxRows → n ≤ maxRows → new ≡ take n xs ++ drop (length (take n xs)) old
+    → new ≡ take n xs ++ drop n old
 copied-out n xs old new e h f = f ∙ ap (λ (x : ℕ). take n xs ++ drop x old) (length-take-le n xs (in-array e h))

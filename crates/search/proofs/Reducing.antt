@@ -1,19 +1,18 @@
 -- Delays within the period stand for the delays. Assumes nothing.
 use mathlib.Core.Path.{_≡_, refl, sym, ap, _∙_, fun-ext}
 use mathlib.Core.Logic.{⊎-elim}
-use mathlib.Core.Bool.{Bool, _&&_, not}
+use mathlib.Core.Bool.{Bool, not}
 use mathlib.Core.List.{List}
-use Prim.Native.Nat.{ℕ, zero, suc, _+_, _%_, _<_, _≤_}
+use Prim.Native.Nat.{ℕ, _+_, _%_, _<_, _≤_}
 use native.Mathlib.Omega.{arith}
 use native.Mathlib.Nat.{mod-eq-of-lt, add-mod-mod, mod-mod}
 use lib.ListN.{length, getD, set, length-set, replicate, getD-replicate, length-replicate, List·getD-eq-default}
 use lib.Seq.{getD-set-same, getD-set-other}
 use Rattle.link.specs.Limits.{maxRows}
 use Rattle.link.specs.Least.{some}
-use Rattle.link.specs.Slots.{meets}
 use Rattle.link.specs.Rows.{Crossing, one, two, second, start, startAt, hits, either}
 use Rattle.link.proofs.Bools.{lt-or-ge}
-use Rattle.search.specs.Steps.{Step, Rules, rules, placed, after, offsetOf, puts, inTheWay, good, put, steps}
+use Rattle.search.specs.Steps.{Step, Rules, rules, after, offsetOf, puts, inTheWay, good, put, steps}
 
 -- ts has the first i delays within the period, and 0 behind them
 pub record Reduced (p : ℕ) (ds : List ℕ) (i : ℕ) (ts : List ℕ) : Type 0 where
@@ -26,10 +25,12 @@ reduced-none p ds =
     record {
       long = length-replicate {A = ℕ} maxRows 0;
       front = λ j l. absurd (omega arith);
-      rest = λ j l. ⊎-elim (λ a. getD-replicate maxRows j 0 0 a) (λ a. List·getD-eq-default (replicate maxRows 0) 0 {n = j} (rw (length-replicate {A = ℕ} maxRows 0) a)) (lt-or-ge j maxRows);
+      rest = λ j l. ⊎-elim (λ a. getD-replicate maxRows j 0 0 a)
+          (λ a. List·getD-eq-default (replicate maxRows 0) 0 {n = j} (rw (length-replicate {A = ℕ} maxRows 0) a)) (lt-or-ge j maxRows);
     }
 
-pub reduced-more : (p : ℕ) (ds : List ℕ) (i : ℕ) (ts : List ℕ) (v : ℕ) → i < maxRows → v ≡ getD ds i 0 % p → Reduced p ds i ts → Reduced p ds (i + 1) (set ts i v)
+pub reduced-more : (p : ℕ) (ds : List ℕ) (i : ℕ) (ts : List ℕ) (v : ℕ) → i < maxRows → v ≡ getD ds i 0 % p → Reduced p ds i ts
+    → Reduced p ds (i + 1) (set ts i v)
 reduced-more p ds i ts v h e r =
     record {
       long = length-set ts i v ∙ r .long;
@@ -38,9 +39,11 @@ reduced-more p ds i ts v h e r =
       rest = λ j l. getD-set-other ts i j v 0 (omega arith) ∙ r .rest j (omega arith);
     }
 
-pub reduced-all : (p : ℕ) (ds : List ℕ) (i : ℕ) (ts : List ℕ) → length ds ≤ i → Reduced p ds i ts → 0 < p → (j : ℕ) → getD ts j 0 ≡ getD ds j 0 % p
+pub reduced-all : (p : ℕ) (ds : List ℕ) (i : ℕ) (ts : List ℕ) → length ds ≤ i → Reduced p ds i ts → 0 < p → (j : ℕ)
+    → getD ts j 0 ≡ getD ds j 0 % p
 reduced-all p ds i ts h r z j =
-    ⊎-elim (r .front j) (λ a. r .rest j a ∙ sym (ap (λ (x : ℕ). x % p) (List·getD-eq-default ds 0 (omega arith)) ∙ mod-eq-of-lt z)) (lt-or-ge j i)
+    ⊎-elim (r .front j) (λ a. r .rest j a ∙ sym (ap (λ (x : ℕ). x % p) (List·getD-eq-default ds 0 (omega arith)) ∙ mod-eq-of-lt z))
+    (lt-or-ge j i)
 
 -- A table with its delays within the period has the same steps, the same good ones, and puts rows where the table puts them.
 module _ (p l : ℕ) (ds ts : List ℕ) (same : (i : ℕ) → getD ts i 0 ≡ getD ds i 0 % p) where
@@ -57,7 +60,8 @@ module _ (p l : ℕ) (ds ts : List ℕ) (same : (i : ℕ) → getD ts i 0 ≡ ge
   puts-same : (s : List ℕ) (k : Step) → puts p l ts s k ≡ puts p l ds s k
   unfolding puts start
   puts-same s k =
-      ap (λ (x : ℕ). offsetOf p (k .crossing) (getD ts (k .row) 0) (after p l x)) (start-same (k .crossing) (k .beside) (getD s (k .beside) 0))
+      ap (λ (x : ℕ). offsetOf p (k .crossing) (getD ts (k .row) 0) (after p l x))
+      (start-same (k .crossing) (k .beside) (getD s (k .beside) 0))
       ∙ offset-same (k .crossing) (k .row) _
 
   hits-same : (s : List ℕ) (j a : ℕ) (c : Crossing) (i : ℕ) → hits p l ts s (getD ts j 0) a c i ≡ hits p l ds s (getD ds j 0) a c i

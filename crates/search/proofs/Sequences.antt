@@ -1,13 +1,14 @@
 -- The list of step sequences holds just the sequences, and it strictly increases. Assumes nothing.
-use mathlib.Core.Path.{_≡_, refl, sym, ap, _∙_, subst}
+use mathlib.Core.Path.{_≡_, refl, ap, _∙_, subst}
 use mathlib.Core.Logic.{_⊎_, inl, inr, ⊎-elim}
-use mathlib.Core.Bool.{Bool, true, false, _&&_, not, cond}
-use mathlib.Core.List.{List, [], _∷_, _++_, map, List·Memᴰ, List·Memᴰ·head, List·Memᴰ·tail, List·Memᴰ·cases-cons, List·Memᴰ·not-nil, List·Memᴰ·append-cases, Memᴰ·append-left, Memᴰ·append-right}
-use Prim.Native.Nat.{ℕ, zero, suc, _+_, _<_, _≤_}
+use mathlib.Core.Bool.{Bool, true, false, cond}
+use mathlib.Core.List.{List, [], _∷_, map, List·Memᴰ, List·Memᴰ·head, List·Memᴰ·tail, List·Memᴰ·cases-cons, List·Memᴰ·not-nil}
+use mathlib.Core.List.{List·Memᴰ·append-cases, Memᴰ·append-left, Memᴰ·append-right}
+use Prim.Native.Nat.{ℕ, zero, suc, _≤_}
 use native.Mathlib.Omega.{arith}
 use lib.ListN.{length}
 use Rattle.search.specs.Steps.{Step, Rules}
-use Rattle.search.specs.Builds.{Sequence, last, onward, orderSteps, earlierStep, earlier, behind, sequences}
+use Rattle.search.specs.Builds.{Sequence, last, onward, earlierStep, earlier, behind, sequences}
 use Rattle.search.proofs.Orders.{Before, Sorted, sorted-append, sorted-one, decides, itself}
 
 in-map : (k : Step) {q : List Step} (qs : List (List Step)) → List·Memᴰ q qs → List·Memᴰ (k ∷ q) (map (_∷_ k) qs)
@@ -40,7 +41,8 @@ module _ (r : Rules) (d : List ℕ → List (List Step)) (s : List ℕ) where
   unfolding behind
   in-behind [] k q m h = absurd (List·Memᴰ·not-nil m)
   in-behind (x ∷ ks) k q m h =
-      ⊎-elim (λ e. Memᴰ·append-left (behind r d s ks) (subst (λ (z : Step). List·Memᴰ (k ∷ q) (map (_∷_ z) (tails z))) e (in-map k (tails k) h)))
+      ⊎-elim (λ e. Memᴰ·append-left (behind r d s ks) (subst (λ (z : Step). List·Memᴰ (k ∷ q) (map (_∷_ z) (tails z))) e
+      (in-map k (tails k) h)))
       (λ g. Memᴰ·append-right (map (_∷_ x) (tails x)) (in-behind ks k q g h)) (List·Memᴰ·cases-cons m)
 
   record Behind (x : List Step) (ks : List Step) : Type 0 where
@@ -53,7 +55,8 @@ module _ (r : Rules) (d : List ℕ → List (List Step)) (s : List ℕ) where
   behind-in [] x m = absurd (List·Memᴰ·not-nil m)
   behind-in (k ∷ ks) x m =
       ⊎-elim (λ a. record { head = k; one = List·Memᴰ·head refl; tail = map-in k x (tails k) a })
-      (λ b. let w = behind-in ks x b in record { head = w .head; one = List·Memᴰ·tail (w .one); tail = w .tail }) (List·Memᴰ·append-cases (map (_∷_ k) (tails k)) m)
+      (λ b. let w = behind-in ks x b in record { head = w .head; one = List·Memᴰ·tail (w .one); tail = w .tail })
+      (List·Memᴰ·append-cases (map (_∷_ k) (tails k)) m)
 
   tails-sorted : ((s : List ℕ) → Sorted earlier ([] ∷ d s)) → (k : Step) → Sorted earlier (tails k)
   tails-sorted h k = go (r .good s k)
@@ -66,7 +69,8 @@ module _ (r : Rules) (d : List ℕ → List (List Step)) (s : List ℕ) where
   unfolding behind
   behind-sorted h [] o = tt
   behind-sorted h (k ∷ ks) o =
-      sorted-append earlier (map (_∷_ k) (tails k)) (behind r d s ks) (map-sorted k (tails k) (tails-sorted h k)) (behind-sorted h ks (o .1))
+      sorted-append earlier (map (_∷_ k) (tails k)) (behind r d s ks) (map-sorted k (tails k) (tails-sorted h k))
+      (behind-sorted h ks (o .1))
       (λ x m y n. let a = map-in k x (tails k) m in let b = behind-in ks y n in
       rw (a .is, b .tail .is) (decides k (b .head) (o .0 (b .head) (b .one)) (earlier (a .rest) (b .tail .rest))))
 
@@ -98,9 +102,11 @@ module _ (r : Rules) where
   sequences-are (suc u) s q m =
       let b = behind-in r (sequences r u) s (r .steps s) q m in
       let k = b .head in
-      rw (b .tail .is) (go k (b .one) (b .tail .rest) (r .good s k) refl (sequences-are u (r .put s k)) (List·Memᴰ·cases-cons (b .tail .mem)))
+      rw (b .tail .is) (go k (b .one) (b .tail .rest) (r .good s k) refl (sequences-are u (r .put s k))
+      (List·Memᴰ·cases-cons (b .tail .mem)))
     where
-      go : (k : Step) → List·Memᴰ k (r .steps s) → (x : List Step) (g : Bool) → r .good s k ≡ g → ((y : List Step) → List·Memᴰ y (sequences r u (r .put s k)) → Sequence r (r .put s k) y × (length y ≤ u))
+      go : (k : Step) → List·Memᴰ k (r .steps s) → (x : List Step) (g : Bool) → r .good s k ≡ g
+          → ((y : List Step) → List·Memᴰ y (sequences r u (r .put s k)) → Sequence r (r .put s k) y × (length y ≤ u))
           → (x ≡ []) ⊎ List·Memᴰ x (cond g (sequences r u (r .put s k)) []) → Sequence r s (k ∷ x) × (length (k ∷ x) ≤ suc u)
       go k o x g e h (inl z) = rw z (last o, omega arith)
       go k o x true e h (inr z) = let w = h x z in (onward o e (w .0), omega (arith, w .1))

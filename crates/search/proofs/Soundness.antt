@@ -1,43 +1,45 @@
 -- Good steps keep the placed rows apart, so a whole build gives clear offsets. Assumes nothing.
-use mathlib.Core.Path.{_≡_, refl, sym, ap, _∙_}
-use mathlib.Core.Logic.{_⊎_, inl, inr, ⊎-elim}
-use mathlib.Core.Bool.{Bool, true, false, _&&_, _||_, not, cond}
-use mathlib.Core.List.{List, [], _∷_}
-use Prim.Native.Nat.{ℕ, zero, suc, _+_, _-_, _<_, _≤_}
+use mathlib.Core.Path.{_≡_, refl, sym, _∙_}
+use mathlib.Core.Logic.{⊎-elim}
+use mathlib.Core.Bool.{Bool, true, false, _||_, not}
+use mathlib.Core.List.{List}
+use Prim.Native.Nat.{ℕ, _<_, _≤_}
 use native.Mathlib.Omega.{arith}
 use lib.Dec.{eqb}
 use lib.ListN.{length, getD, take}
-use lib.Seq.{length-take-le, getD-take}
+use lib.Seq.{getD-take}
 use borrow.Author.Tests.{not-true, not-false, eqb-true, eqb-false}
 use Rattle.link.specs.Limits.{maxRows}
 use Rattle.link.specs.Rows.{Crossing, one, two, start, startAt, hits, either, Clear}
-use Rattle.link.proofs.Bools.{clash, or-none, lt-or-ge}
+use Rattle.link.proofs.Bools.{or-none, lt-or-ge}
 use Rattle.link.proofs.Circle.{Apart}
 use Rattle.link.proofs.Minimum.{none-has}
 use Rattle.link.proofs.Meeting.{start-low}
-use Rattle.search.specs.Steps.{Step, Rules, rules, placed, puts, inTheWay, good, put, isStep}
+use Rattle.search.specs.Steps.{Step, rules, placed, puts, inTheWay, good, put, isStep}
 use Rattle.search.specs.Builds.{Build, done, onward, leads, begin}
-use Rattle.search.proofs.Counts.{howMany, none-of}
+use Rattle.search.proofs.Counts.{none-of}
 use Rattle.search.proofs.Listing.{steps-are}
 use Rattle.search.proofs.Moving.{apart-sym, apart-of, apart-slots, no-slot}
-use Rattle.search.proofs.Numbers.{Names, names}
-use Rattle.search.proofs.States.{At, placed-low, puts-low, put-other, put-here, placed-other, put-at, begin-free, begin-at}
+use Rattle.search.proofs.Numbers.{names}
+use Rattle.search.proofs.States.{At, placed-low, puts-low, put-other, put-here, placed-other, put-at, begin-free}
 use Rattle.search.proofs.Completeness.{Plan}
 
 -- every two placed rows are apart in both crossings
 abbrev pub Okay : ℕ → ℕ → List ℕ → ℕ → List ℕ → Type 0
-Okay p l ds n s = (c : Crossing) (i j : ℕ) → i < n → j < n → (i ≡ j → ⊥) → placed p s i ≡ true → placed p s j ≡ true → Apart p l (start p ds s c i) (start p ds s c j)
+Okay p l ds n s = (c : Crossing) (i j : ℕ) → i < n → j < n → (i ≡ j → ⊥) → placed p s i ≡ true → placed p s j ≡ true → Apart p l
+    (start p ds s c i) (start p ds s c j)
 
 module _ (p l : ℕ) (ds : List ℕ) (n : ℕ) (some : 0 < p) (lp : l ≤ p) where
   module _ (s : List ℕ) (k : Step) (gd : good p l ds n s k ≡ true) where
-    not-met : (c : Crossing) (i : ℕ) → i < n → placed p s i ≡ true → hits p l ds s (getD ds (k .row) 0) (puts p l ds s k) c i ≡ false
+    pub not-met : (c : Crossing) (i : ℕ) → i < n → placed p s i ≡ true → hits p l ds s (getD ds (k .row) 0) (puts p l ds s k) c i ≡ false
     unfolding good inTheWay either
     not-met c i h e = go c
       where
         hit : Crossing → Bool
         hit c = hits p l ds s (getD ds (k .row) 0) (puts p l ds s k) c i
 
-        free : (hits p l ds s (getD ds (k .row) 0) (puts p l ds s k) one i || hits p l ds s (getD ds (k .row) 0) (puts p l ds s k) two i) ≡ false
+        free : (hits p l ds s (getD ds (k .row) 0) (puts p l ds s k) one i || hits p l ds s (getD ds (k .row) 0) (puts p l ds s k) two i)
+            ≡ false
         free = rw e at (none-has (inTheWay p l ds s (getD ds (k .row) 0) (puts p l ds s k)) n (not-true _ gd) i h)
 
         go : (c : Crossing) → hits p l ds s (getD ds (k .row) 0) (puts p l ds s k) c i ≡ false
@@ -45,7 +47,8 @@ module _ (p l : ℕ) (ds : List ℕ) (n : ℕ) (some : 0 < p) (lp : l ≤ p) whe
         go two = or-none (hit one) (hit two) free .1
 
     -- the row that is put, and a placed one
-    new-apart : (c : Crossing) (i : ℕ) → i < n → placed p s i ≡ true → Apart p l (start p ds s c i) (startAt p c (getD ds (k .row) 0) (puts p l ds s k))
+    new-apart : (c : Crossing) (i : ℕ) → i < n → placed p s i ≡ true
+        → Apart p l (start p ds s c i) (startAt p c (getD ds (k .row) 0) (puts p l ds s k))
     unfolding hits start
     new-apart c i h e =
         apart-of p l _ _ (start-low p c _ _ (placed-low p s i e)) (start-low p c _ _ (puts-low p l ds s k some)) lp (not-met c i h e)
@@ -54,15 +57,18 @@ module _ (p l : ℕ) (ds : List ℕ) (n : ℕ) (some : 0 < p) (lp : l ≤ p) whe
       row-low : k .row < length s
       row-low = omega (arith, names p n s k is .row-low)
 
-      old-new : (c : Crossing) (i : ℕ) → i < n → (i ≡ k .row → ⊥) → placed p (put p l ds s k) i ≡ true → Apart p l (start p ds (put p l ds s k) c i) (start p ds (put p l ds s k) c (k .row))
+      old-new : (c : Crossing) (i : ℕ) → i < n → (i ≡ k .row → ⊥) → placed p (put p l ds s k) i ≡ true
+          → Apart p l (start p ds (put p l ds s k) c i) (start p ds (put p l ds s k) c (k .row))
       unfolding start
-      old-new c i h m e = rw (put-other p l ds s k i m, put-here p l ds s k row-low) (new-apart c i h (sym (placed-other p l ds s k i m) ∙ e))
+      old-new c i h m e = rw (put-other p l ds s k i m, put-here p l ds s k row-low)
+          (new-apart c i h (sym (placed-other p l ds s k i m) ∙ e))
 
       put-okay : Okay p l ds n (put p l ds s k)
       unfolding start
       put-okay c i j hi hj m pi pj = go (eqb i (k .row)) (eqb j (k .row)) refl refl
         where
-          go : (a b : Bool) → eqb i (k .row) ≡ a → eqb j (k .row) ≡ b → Apart p l (start p ds (put p l ds s k) c i) (start p ds (put p l ds s k) c j)
+          go : (a b : Bool) → eqb i (k .row) ≡ a → eqb j (k .row) ≡ b
+              → Apart p l (start p ds (put p l ds s k) c i) (start p ds (put p l ds s k) c j)
           go true true x y = absurd (m (eqb-true i (k .row) x ∙ sym (eqb-true j (k .row) y)))
           go true false x y = rw (eqb-true i (k .row) x) (apart-sym p l _ _ (old-new c j hj (eqb-false j (k .row) y) pj))
           go false true x y = rw (eqb-true j (k .row) y) (old-new c i hi (eqb-false i (k .row) x) pi)
@@ -96,13 +102,19 @@ module _ (p l : ℕ) (ds : List ℕ) (some : 0 < p) (lp : l ≤ p) where
         apart = λ c i j h k. let x = all-placed p l ds (length ds) some lp s a i (omega arith) in
             let y = all-placed p l ds (length ds) some lp s a j k in
             rw (getD-take (length ds) s i 0 (omega arith), getD-take (length ds) s j 0 k)
-            (no-slot p l _ _ (start-low p c _ _ (placed-low p s i x)) (start-low p c _ _ (placed-low p s j y)) lp (ok c i j (omega arith) k (λ z. omega arith) x y));
+            (no-slot p l _ _ (start-low p c _ _ (placed-low p s i x)) (start-low p c _ _ (placed-low p s j y)) lp
+            (ok c i j (omega arith) k (λ z. omega arith) x y));
       }
 
   -- clear offsets, row by row
   pub plan-of : (os : List ℕ) → ((i : ℕ) → i < length ds → getD os i 0 < p) → Clear p l ds os → Plan p l ds (length ds) (λ i. getD os i 0)
   unfolding start
-  plan-of os low cl = record { inside = low; apart = λ c i j hi hj m. ⊎-elim (λ h. go c i j h hj) (λ h. apart-sym p l _ _ (go c j i (omega arith) hi)) (lt-or-ge i j) }
+  plan-of os low cl = record {
+    inside = low;
+    apart = λ c i j hi hj m. ⊎-elim (λ h. go c i j h hj)
+        (λ h. apart-sym p l _ _ (go c j i (omega arith) hi)) (lt-or-ge i j);
+  }
     where
-      go : (c : Crossing) (i j : ℕ) → i < j → j < length ds → Apart p l (startAt p c (getD ds i 0) (getD os i 0)) (startAt p c (getD ds j 0) (getD os j 0))
+      go : (c : Crossing) (i j : ℕ) → i < j → j < length ds
+          → Apart p l (startAt p c (getD ds i 0) (getD os i 0)) (startAt p c (getD ds j 0) (getD os j 0))
       go c i j h k = apart-slots p l _ _ (start-low p c _ _ (low i (omega arith))) (start-low p c _ _ (low j k)) lp (cl .apart c i j h k)

@@ -1,21 +1,19 @@
 -- The offsets that steps lead to: row 0 stands at 0, and each step leaves one row less to place. Assumes nothing.
 use mathlib.Core.Path.{_≡_, refl, sym, ap, _∙_}
-use mathlib.Core.Logic.{⊎-elim}
-use mathlib.Core.Bool.{Bool, true, false, not, cond}
+use mathlib.Core.Bool.{true, false, not}
 use mathlib.Core.List.{List}
 use Prim.Native.Nat.{ℕ, zero, suc, _+_, _-_, _<_, _≤_}
 use native.Mathlib.Omega.{arith}
 use lib.Dec.{ltb}
-use lib.ListN.{length, getD, set, length-set, replicate, length-replicate, getD-replicate}
+use lib.ListN.{length, getD, length-set, length-replicate, getD-replicate}
 use lib.Seq.{getD-set-same, getD-set-other}
 use borrow.Author.Tests.{lt-ltb, le-ltb, ltb-true}
 use Rattle.link.specs.Limits.{maxRows}
-use Rattle.link.proofs.Bools.{clash}
 use Rattle.search.specs.Steps.{Step, placed, puts, put, isStep}
 use Rattle.search.specs.Builds.{begin}
-use Rattle.search.proofs.Counts.{howMany, one-less, all-have}
+use Rattle.search.proofs.Counts.{howMany, one-less}
 use Rattle.search.proofs.Moving.{offset-low, after-low}
-use Rattle.search.proofs.Numbers.{Names, names}
+use Rattle.search.proofs.Numbers.{names}
 
 -- u of the n rows are not placed
 pub record At (p n u : ℕ) (s : List ℕ) : Type 0 where
@@ -63,11 +61,14 @@ module _ (p l : ℕ) (ds s : List ℕ) (k : Step) where
   put-at n u h e a =
       let w = names p n s k e in
       let c : howMany (λ i. not (placed p s i)) 0 n ≡ suc (howMany (λ i. not (placed p (put p l ds s k) i)) 0 n) =
-      one-less (λ i. not (placed p s i)) (λ i. not (placed p (put p l ds s k) i)) (k .row) (ap not (not-placed p s (k .row) (w .row-free)))
-      (ap not (placed-here h (omega (arith, w .row-low, a .long)))) (λ i q. ap not (sym (placed-other i q))) 0 n (omega arith) (omega (arith, w .row-low)) in
+      one-less (λ i. not (placed p s i)) (λ i. not (placed p (put p l ds s k) i)) (k .row)
+      (ap not (not-placed p s (k .row) (w .row-free)))
+      (ap not (placed-here h (omega (arith, w .row-low, a .long)))) (λ i q. ap not (sym (placed-other i q))) 0 n (omega arith)
+      (omega (arith, w .row-low)) in
       record {
         long = omega (arith, length-put, a .long);
-        first = put-other 0 (λ z. let q : getD s 0 0 ≡ getD s (k .row) 0 = ap (λ (x : ℕ). getD s x 0) z in absurd (omega (arith, a .first, w .row-free))) ∙ a .first;
+        first = put-other 0 (λ z. let q : getD s 0 0 ≡ getD s (k .row) 0 = ap (λ (x : ℕ). getD s x 0) z in absurd
+            (omega (arith, a .first, w .row-free))) ∙ a .first;
         left = omega (arith, c, a .left);
       }
 

@@ -1,12 +1,12 @@
 -- What the exact planner answers, and what it leaves in the lent list.
 use mathlib.Core.Path.{_≡_}
-use mathlib.Core.Bool.{Bool, cond}
-use mathlib.Core.List.{List, _++_}
-use Prim.Native.Nat.{ℕ}
+use mathlib.Core.Bool.{cond}
+use mathlib.Core.List.{List, [], _∷_, _++_}
+use Prim.Native.Nat.{ℕ, _<_}
 use lib.Dec.{ltb}
-use lib.ListN.{length, take, drop}
+use lib.ListN.{length, getD, take, drop}
 use Rattle.link.specs.Limits.{noBuild, budgetSpent}
-use Rattle.link.specs.Rows.{spanOf}
+use Rattle.link.specs.Rows.{spanOf, Clear}
 use Rattle.link.specs.Refusal.{first, exactFaults}
 use Rattle.link.specs.declared.Link.{Link}
 use Rattle.link.specs.declared.Judged.{Judged}
@@ -55,11 +55,34 @@ abbrev pub judged : Judged → Outcome → List ℕ → Outcome
 judged Fine o old = o
 judged (Fault n p) o old = gives (says refusal n p 0) old
 
+-- for values in range: 15, 14 or a plan
+abbrev pub searched : Link → List ℕ → ℕ → List ℕ → Outcome
+searched k ds budget old = outcome budget (length ds) old (planned k ds)
+
 -- 5, 6, 8, 7, 11, 12, then 15, 14 or a plan
 unfoldable pub exactly : Link → List ℕ → ℕ → List ℕ → Outcome
-exactly k ds budget old = judged (first (exactFaults k ds (length old))) (outcome budget (length ds) old (planned (k .period) (spanOf k) ds)) old
+exactly k ds budget old = judged (first (exactFaults k ds (length old))) (searched k ds budget old) old
 
 -- the contract: the answer r, and the list `new` where `old` stood
 pub record Answers (k : Link) (ds : List ℕ) (budget : ℕ) (old : List ℕ) (r : Answer) (new : List ℕ) : Type 0 where
   pub told : said r ≡ exactly k ds budget old .says
   pub left : new ≡ exactly k ds budget old .leaves
+
+-- "all offsets 0 to P-1 for all rows": a choice of them that is clear
+pub record ClearChoice (k : Link) (ds os : List ℕ) : Type 0 where
+  pub as-many : length os ≡ length ds
+  pub inside : (i : ℕ) → i < length ds → getD os i 0 < k .period
+  pub clear : Clear (k .period) (spanOf k) ds os
+
+-- "with rows taken out": xs is ys without some of its rows
+pub data Fewer : List ℕ → List ℕ → Type 0 where
+  empty : Fewer [] []
+  keep : {x : ℕ} {xs ys : List ℕ} → Fewer xs ys → Fewer (x ∷ xs) (x ∷ ys)
+  take-out : {y : ℕ} {xs ys : List ℕ} → Fewer xs ys → Fewer xs (y ∷ ys)
+
+-- the two verdicts that a larger budget keeps
+abbrev pub Decided : Answer → Type 0
+Decided (Plan t) = Unit {0}
+Decided (None t) = Unit {0}
+Decided (Spent t) = ⊥
+Decided (Refused n p) = ⊥

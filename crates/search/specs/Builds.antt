@@ -6,18 +6,21 @@ use Prim.Native.Nat.{ℕ, zero, suc, _+_, _-_}
 use lib.Dec.{ltb, eqb}
 use lib.ListN.{length, replicate}
 use Rattle.link.specs.Limits.{maxRows}
-use Rattle.link.specs.Rows.{Crossing, one, two}
+use Rattle.link.specs.Rows.{Crossing, one, two, spanOf}
+use Rattle.link.specs.declared.Link.{Link}
 use Rattle.search.specs.Steps.{Step, Rules, rules}
 
 -- "non-empty step sequences in which every step but perhaps the last is good"
 pub data Sequence (r : Rules) : List ℕ → List Step → Type 0 where
   last : {s : List ℕ} {k : Step} → List·Memᴰ k (r .steps s) → Sequence r s (k ∷ [])
-  onward : {s : List ℕ} {k : Step} {q : List Step} → List·Memᴰ k (r .steps s) → r .good s k ≡ true → Sequence r (r .put s k) q → Sequence r s (k ∷ q)
+  onward : {s : List ℕ} {k : Step} {q : List Step} → List·Memᴰ k (r .steps s) → r .good s k ≡ true → Sequence r (r .put s k) q
+      → Sequence r s (k ∷ q)
 
 -- so many good steps: "A whole build is n-1 good steps."
 pub data Build (r : Rules) : ℕ → List ℕ → List Step → Type 0 where
   done : {s : List ℕ} → Build r 0 s []
-  onward : {u : ℕ} {s : List ℕ} {k : Step} {q : List Step} → List·Memᴰ k (r .steps s) → r .good s k ≡ true → Build r u (r .put s k) q → Build r (suc u) s (k ∷ q)
+  onward : {u : ℕ} {s : List ℕ} {k : Step} {q : List Step} → List·Memᴰ k (r .steps s) → r .good s k ≡ true → Build r u (r .put s k) q
+      → Build r (suc u) s (k ∷ q)
 
 -- the one before the other by the numbers a and b; where these are the same, by t
 unfoldable pub order : ℕ → ℕ → Bool → Bool
@@ -58,6 +61,7 @@ unfoldable pub leads : Rules → List ℕ → List Step → List ℕ
 leads r s [] = s
 leads r s (k ∷ q) = leads r (r .put s k) q
 
+-- every step is good
 unfoldable pub allGood : Rules → List ℕ → List Step → Bool
 allGood r s [] = true
 allGood r s (k ∷ q) = r .good s k && allGood r (r .put s k) q
@@ -75,6 +79,7 @@ unfoldable pub firstOf : (List Step → Bool) → List (List Step) → First
 firstOf f [] = nothing
 firstOf f (q ∷ qs) = cond (f q) (first q) (firstOf f qs)
 
+-- how many of a list have f
 unfoldable pub count : (List Step → Bool) → List (List Step) → ℕ
 count f [] = 0
 count f (q ∷ qs) = cond (f q) 1 0 + count f qs
@@ -97,5 +102,15 @@ leastBuild r u s = counted r u s (firstOf (isWhole r u s) ([] ∷ sequences r u 
 abbrev pub begin : ℕ → List ℕ
 begin p = 0 ∷ replicate (maxRows - 1) p
 
-abbrev pub planned : ℕ → ℕ → List ℕ → Out
-planned p l ds = leastBuild (rules p l ds (length ds)) (length ds - 1) (begin p)
+-- The same of a table: the rules of its builds, its sequences and whole builds, and what the planner finds.
+abbrev pub rulesOf : Link → List ℕ → Rules
+rulesOf k ds = rules (k .period) (spanOf k) ds (length ds)
+
+abbrev pub sequencesOf : Link → List ℕ → List (List Step)
+sequencesOf k ds = sequences (rulesOf k ds) (length ds - 1) (begin (k .period))
+
+abbrev pub WholeBuild : Link → List ℕ → List Step → Type 0
+WholeBuild k ds q = Build (rulesOf k ds) (length ds - 1) (begin (k .period)) q
+
+abbrev pub planned : Link → List ℕ → Out
+planned k ds = leastBuild (rulesOf k ds) (length ds - 1) (begin (k .period))

@@ -1,5 +1,5 @@
 -- "Ceilings, a number that tests never passes (the sum over s = 1 .. n-1 of the product over k = 1 .. s of 2k(n-k))"
-use mathlib.Core.Bool.{Bool, cond}
+use mathlib.Core.Bool.{cond}
 use Prim.Native.Nat.{ℕ, zero, suc, _+_, _-_, _*_}
 use lib.Dec.{leb}
 use Rattle.link.specs.Limits.{maxExactRows}

@@ -3,4 +3,5 @@ pub mod Steps
 pub mod Builds
 pub mod Ceilings
 pub mod Answer
+pub mod Numbering
 pub mod Search

@@ -1,15 +1,16 @@
 -- How the code searches: candidate by candidate, one row deeper at each good one. proofs/Counting shows that it finds the least build.
 use mathlib.Core.Path.{_≡_}
-use mathlib.Core.Bool.{Bool, true, false, _&&_, _||_, not, cond}
+use mathlib.Core.Bool.{Bool, _&&_, _||_, not, cond}
 use mathlib.Core.List.{List, [], _∷_}
-use Prim.Native.Nat.{ℕ, zero, suc, _+_, _-_, _*_, _<_, _≤_, _/_, _%_}
-use lib.Dec.{ltb, leb, eqb}
+use Prim.Native.Nat.{ℕ, zero, suc, _+_, _-_, _<_, _≤_}
+use lib.Dec.{ltb, leb}
 use lib.ListN.{length, getD}
 use Rattle.link.specs.Limits.{maxPeriod, maxRows}
 use Rattle.link.specs.Slots.{apartb}
 use Rattle.link.specs.Least.{some}
-use Rattle.link.specs.Rows.{Crossing, one, two, second, near, either}
-use Rattle.search.specs.Steps.{Step, Rules, rules, placed, isStep}
+use Rattle.link.specs.Rows.{second}
+use Rattle.search.specs.Numbering.{stepAt}
+use Rattle.search.specs.Steps.{Step, Rules, rules}
 use Rattle.search.specs.Builds.{Out, found, none}
 use Rattle.search.specs.declared.Hunt.{Hunt}
 use Rattle.search.specs.declared.Hunt.the-variants.{Found, Nothing, Spent}
@@ -50,6 +51,13 @@ pub record Answered (left : ℕ) (s : List ℕ) (o : Out) (h : Hunt) (s′ : Lis
   pub told : h ≡ verdict left o
   pub kept : s′ ≡ leaves left s o
 
+-- placing the u rows that are left, and trying the step that the number k stands for
+abbrev pub Descended : ℕ → ℕ → List ℕ → ℕ → ℕ → ℕ → List ℕ → Hunt → List ℕ → Type 0
+Descended p l ds n u left s h s′ = Answered left s (deep (rules p l ds n) u s) h s′
+
+abbrev pub Tried : ℕ → ℕ → List ℕ → ℕ → ℕ → ℕ → ℕ → List ℕ → Hunt → List ℕ → Type 0
+Tried p l ds n u k left s h s′ = Answered left s (more 1 (tried (rules p l ds n) (deep (rules p l ds n) u) s (stepAt k))) h s′
+
 -- a table that may be searched: n rows, with delays below the period
 pub record Table (p l : ℕ) (ds : List ℕ) (n : ℕ) : Type 0 where
   pub period : p ≤ maxPeriod
@@ -70,18 +78,3 @@ blocked p l a b x y = ltb x p && (not (apartb p l x a) || not (apartb p l y b))
 
 unfoldable pub unblocked : ℕ → ℕ → List ℕ → List ℕ → ℕ → ℕ → ℕ → Bool
 unblocked p l xs ys n a b = not (some (λ i. blocked p l a b (getD xs i 0) (getD ys i 0)) n)
-
--- A number stands for a step, in the order of the steps.
-abbrev pub crossingAt : ℕ → Crossing
-crossingAt zero = one
-crossingAt (suc n) = two
-
-unfoldable pub stepAt : ℕ → Step
-stepAt k = record { row = k / (2 * maxRows); beside = k / 2 % maxRows; crossing = crossingAt (k % 2) }
-
--- m is the first number from k on that stands for a step; it is past all of them where there is none
-pub record Next (p n : ℕ) (s : List ℕ) (k m : ℕ) : Type 0 where
-  pub low : k ≤ m
-  pub high : m ≤ n * (2 * maxRows)
-  pub skipped : (i : ℕ) → k ≤ i → i < m → isStep p n s (stepAt i) ≡ false
-  pub lands : m < n * (2 * maxRows) → isStep p n s (stepAt m) ≡ true

@@ -1,8 +1,8 @@
 -- Steps of a build. s has the offsets of the rows; a row that is not placed has a number at or above the period p.
-use mathlib.Core.Bool.{Bool, true, false, _&&_, not, cond}
+use mathlib.Core.Bool.{Bool, _&&_, not, cond}
 use mathlib.Core.List.{List, [], _∷_, _++_}
 use Prim.Native.Nat.{ℕ, zero, suc, _+_, _-_, _%_}
-use lib.Dec.{ltb, eqb}
+use lib.Dec.{ltb}
 use lib.ListN.{getD, set}
 use Rattle.link.specs.Least.{some}
 use Rattle.link.specs.Rows.{Crossing, one, two, start, hits, either}
@@ -19,7 +19,7 @@ step j i c = record { row = j; beside = i; crossing = c }
 unfoldable pub placed : ℕ → List ℕ → ℕ → Bool
 placed p s i = ltb (getD s i 0) p
 
--- of n rows
+-- k is such a step, of n rows
 unfoldable pub isStep : ℕ → ℕ → List ℕ → Step → Bool
 isStep p n s k = (ltb (k .row) n && ltb (k .beside) n) && (not (placed p s (k .row)) && placed p s (k .beside))
 

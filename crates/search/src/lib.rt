@@ -9,20 +9,46 @@ ghost use mathlib.Core.List.{_++_};
 ghost use Prim.Native.Nat.{ℕ, _<_, _≤_, _*_, _%_};
 ghost use lib.ListN.{length, getD, drop};
 ghost use Rattle.link.specs.Limits.{maxPeriod, maxRows};
-ghost use Rattle.link.specs.Rows.{spanOf, second};
+ghost use Rattle.link.specs.Rows.{second};
 ghost use Rattle.link.specs.Range.{GoodTable};
-ghost use Rattle.search.specs.Steps.{rules, puts, isStep};
-ghost use Rattle.search.specs.Builds.{planned};
+ghost use Rattle.search.specs.Steps.{puts, isStep};
 ghost use Rattle.search.specs.Ceilings.{ceilingUpTo};
-ghost use Rattle.search.specs.Answer.{said, outcome, Answers};
-ghost use Rattle.search.specs.Search.{Table, Starts, Answered, tried, deep, blocked, unblocked, stepAt, Next};
+ghost use Rattle.search.specs.Answer.{said, searched, Answers};
+ghost use Rattle.search.specs.Numbering.{stepAt, Next};
+ghost use Rattle.search.specs.Search.{Table, Starts, Tried, Descended, blocked, unblocked};
 
+// A plan, no whole build, a budget that was not enough (each with its tests), or a refusal.
 pub enum Answer {
     Plan { tests: u64 },
     None { tests: u64 },
     Spent { tests: u64 },
     Refused { number: u32, place: usize },
 }
+
+// The offsets of the least whole build. 5, 6, 8, 7, 11, 12, then 15, 14 or a plan.
+pub fn exact(link: Link, delays: &[u32], budget: u64, offsets: &mut [u32]) -> Answer
+    ensures { λ r. ⌜ Answers link (now (delays .entry)) budget (now (offsets .entry)) r (now (offsets .exit)) ⌝ }
+{
+    match link::judge::exact(link, delays, offsets.len()) {
+        Judged::Fault { number, place } => Answer::Refused { number, place },
+        Judged::Fine => plan(link, delays, budget, offsets),
+    }
+}
+
+const CEILINGS: [u64; 9] = [0, 0, 2, 20, 342, 10472, 509930, 36086652, 3493657790];
+
+// A number that the tests of so many rows never pass; 0 where the planner takes no such table.
+pub fn ceiling(rows: usize) -> u64
+    ensures { λ r. ⌜ r ≡ ceilingUpTo rows ⌝ }
+{
+    if rows > MAX_EXACT_ROWS {
+        return 0;
+    }
+    CEILINGS[rows]
+}
+
+// A number for each row. A row that is not placed has a first start at or above the period.
+type Rows = [u32; MAX_ROWS];
 
 // How a search ended, with the tests that are left.
 enum Hunt {
@@ -33,6 +59,57 @@ enum Hunt {
 
 // The numbers of the steps of one row: two for each other row.
 const ROW: usize = 2 * MAX_ROWS;
+
+// The answer for values in range: the search starts with row 0 at offset 0 and no other row placed.
+fn plan(link: Link, delays: &[u32], budget: u64, offsets: &mut [u32]) -> Answer
+    requires { ⌜ GoodTable link (now delays) × (length (now delays) ≤ length (now offsets)) ⌝ }
+    ensures { λ r. ⌜ said r ≡ searched link (now (delays .entry)) budget (now (offsets .entry)) .says ⌝ }
+    ensures { λ r. ⌜ now (offsets .exit) ≡ searched link (now (delays .entry)) budget (now (offsets .entry)) .leaves ⌝ }
+{
+    let p = link.period;
+    let l = link::span(link);
+    let rows = delays.len();
+    let turns = reduced(p, delays);
+    let mut firsts = [p; MAX_ROWS];
+    let mut seconds = [0u32; MAX_ROWS];
+    firsts[0] = 0;
+    seconds[0] = turns[0];
+    match descend(
+        p,
+        l,
+        &turns,
+        &mut firsts,
+        &mut seconds,
+        rows,
+        rows - 1,
+        budget,
+    ) {
+        Hunt::Found(left) => {
+            copy_out(&firsts[..rows], offsets);
+            Answer::Plan {
+                tests: budget - left,
+            }
+        }
+        Hunt::Nothing(left) => Answer::None {
+            tests: budget - left,
+        },
+        Hunt::Spent => Answer::Spent { tests: budget },
+    }
+}
+
+// The delays within the period.
+fn reduced(p: u32, delays: &[u32]) -> Rows
+    requires { ⌜ (0 < p) × (length (now delays) ≤ maxRows) ⌝ }
+    ensures { λ r. ⌜ ((i : ℕ) → getD r i 0 ≡ getD (now (delays .entry)) i 0 % p) ⌝ }
+{
+    let mut turns = [0u32; MAX_ROWS];
+    let mut i: usize = 0;
+    while i < delays.len() {
+        turns[i] = delays[i] % p;
+        i += 1;
+    }
+    turns
+}
 
 // a + b, round the period.
 fn turn(p: u32, a: u32, b: u32) -> u32
@@ -60,13 +137,13 @@ fn meets(p: u32, l: u32, a: u32, b: u32, x: u32, y: u32) -> bool
 }
 
 // Whether a row with the starts a and b meets no placed row.
-fn is_free(p: u32, l: u32, xs: &[u32; 64], ys: &[u32; 64], rows: usize, a: u32, b: u32) -> bool
+fn is_free(p: u32, l: u32, firsts: &Rows, seconds: &Rows, rows: usize, a: u32, b: u32) -> bool
     requires { ⌜ rows ≤ maxRows ⌝ }
-    ensures { λ r. ⌜ r ≡ unblocked p l (now (xs .entry)) (now (ys .entry)) rows a b ⌝ }
+    ensures { λ r. ⌜ r ≡ unblocked p l (now (firsts .entry)) (now (seconds .entry)) rows a b ⌝ }
 {
     let mut i: usize = 0;
     while i < rows {
-        if meets(p, l, a, b, xs[i], ys[i]) {
+        if meets(p, l, a, b, firsts[i], seconds[i]) {
             return false;
         }
         i += 1;
@@ -75,14 +152,14 @@ fn is_free(p: u32, l: u32, xs: &[u32; 64], ys: &[u32; 64], rows: usize, a: u32, 
 }
 
 // The number of the first step from a number on.
-fn next_step(p: u32, xs: &[u32; 64], rows: usize, from: usize) -> usize
+fn next_step(p: u32, firsts: &Rows, rows: usize, from: usize) -> usize
     requires { ⌜ (rows ≤ maxRows) × (from ≤ rows * (2 * maxRows)) ⌝ }
-    ensures { λ r. ⌜ Next p rows (now (xs .entry)) from r ⌝ }
+    ensures { λ r. ⌜ Next p rows (now (firsts .entry)) from r ⌝ }
 {
     let mut k = from;
     while k < rows * ROW {
         let j = k / ROW;
-        if xs[j] < p {
+        if firsts[j] < p {
             k = (j + 1) * ROW;
             continue;
         }
@@ -91,7 +168,7 @@ fn next_step(p: u32, xs: &[u32; 64], rows: usize, from: usize) -> usize
             k = (j + 1) * ROW;
             continue;
         }
-        if xs[i] < p {
+        if firsts[i] < p {
             return k;
         }
         k += 2 - k % 2;
@@ -103,56 +180,59 @@ fn next_step(p: u32, xs: &[u32; 64], rows: usize, from: usize) -> usize
 fn offset(
     p: u32,
     l: u32,
-    delays: &[u32; 64],
-    xs: &[u32; 64],
-    ys: &[u32; 64],
+    delays: &Rows,
+    firsts: &Rows,
+    seconds: &Rows,
     rows: usize,
     k: usize,
 ) -> u32
-    requires { ⌜ Table p l (now delays) rows × Starts p (now delays) rows (now xs) (now ys) × (isStep p rows (now xs) (stepAt k) ≡ true) ⌝ }
-    ensures { λ r. ⌜ (r ≡ puts p l (now (delays .entry)) (now (xs .entry)) (stepAt k)) × (r < p) ⌝ }
+    requires { ⌜ Table p l (now delays) rows × Starts p (now delays) rows (now firsts) (now seconds)
+        × (isStep p rows (now firsts) (stepAt k) ≡ true) ⌝ }
+    ensures { λ r. ⌜ (r ≡ puts p l (now (delays .entry)) (now (firsts .entry)) (stepAt k)) × (r < p) ⌝ }
 {
     let i = k / 2 % MAX_ROWS;
     if k % 2 == 0 {
-        return turn(p, xs[i], l);
+        return turn(p, firsts[i], l);
     }
-    turn(p, turn(p, ys[i], l), p - delays[k / ROW])
+    turn(p, turn(p, seconds[i], l), p - delays[k / ROW])
 }
 
-// Tries the step k: where it is good, the rows that are then left are placed.
+// Tries the step k, which is one test: where it is good, the rows that are then left are placed.
 fn try_step(
     p: u32,
     l: u32,
-    delays: &[u32; 64],
-    xs: &mut [u32; 64],
-    ys: &mut [u32; 64],
+    delays: &Rows,
+    firsts: &mut Rows,
+    seconds: &mut Rows,
     rows: usize,
     unplaced: usize,
     k: usize,
     left: u64,
 ) -> Hunt
-    requires { ⌜ Table p l (now delays) rows × Starts p (now delays) rows (now xs) (now ys) × (k < rows * (2 * maxRows)) × (isStep p rows (now xs) (stepAt k) ≡ true) ⌝ }
-    ensures { λ r. ⌜ Answered left (now (xs .entry)) (tried (rules p l (now (delays .entry)) rows) (deep (rules p l (now (delays .entry)) rows) unplaced) (now (xs .entry)) (stepAt k)) r (now (xs .exit)) ⌝ }
-    ensures { λ r. ⌜ Starts p (now (delays .entry)) rows (now (xs .exit)) (now (ys .exit)) ⌝ }
+    requires { ⌜ Table p l (now delays) rows × Starts p (now delays) rows (now firsts) (now seconds)
+        × (k < rows * (2 * maxRows)) × (isStep p rows (now firsts) (stepAt k) ≡ true) × (0 < left) ⌝ }
+    ensures { λ r. ⌜ Tried p l (now (delays .entry)) rows unplaced k left (now (firsts .entry)) r (now (firsts .exit)) ⌝ }
+    ensures { λ r. ⌜ Starts p (now (delays .entry)) rows (now (firsts .exit)) (now (seconds .exit)) ⌝ }
 {
+    let rest = left - 1;
     let j = k / ROW;
-    let a = offset(p, l, delays, xs, ys, rows, k);
+    let a = offset(p, l, delays, firsts, seconds, rows, k);
     let b = turn(p, a, delays[j]);
-    if !is_free(p, l, xs, ys, rows, a, b) {
-        return Hunt::Nothing(left);
+    if !is_free(p, l, firsts, seconds, rows, a, b) {
+        return Hunt::Nothing(rest);
     }
-    let old = xs[j];
-    xs[j] = a;
-    ys[j] = b;
-    let deeper = descend(p, l, delays, xs, ys, rows, unplaced, left);
+    let old = firsts[j];
+    firsts[j] = a;
+    seconds[j] = b;
+    let deeper = descend(p, l, delays, firsts, seconds, rows, unplaced, rest);
     match deeper {
-        Hunt::Found(rest) => Hunt::Found(rest),
-        Hunt::Nothing(rest) => {
-            xs[j] = old;
-            Hunt::Nothing(rest)
+        Hunt::Found(left) => Hunt::Found(left),
+        Hunt::Nothing(left) => {
+            firsts[j] = old;
+            Hunt::Nothing(left)
         }
         Hunt::Spent => {
-            xs[j] = old;
+            firsts[j] = old;
             Hunt::Spent
         }
     }
@@ -162,27 +242,28 @@ fn try_step(
 fn descend(
     p: u32,
     l: u32,
-    delays: &[u32; 64],
-    xs: &mut [u32; 64],
-    ys: &mut [u32; 64],
+    delays: &Rows,
+    firsts: &mut Rows,
+    seconds: &mut Rows,
     rows: usize,
     unplaced: usize,
     budget: u64,
 ) -> Hunt
-    requires { ⌜ Table p l (now delays) rows × Starts p (now delays) rows (now xs) (now ys) ⌝ }
-    ensures { λ r. ⌜ Answered budget (now (xs .entry)) (deep (rules p l (now (delays .entry)) rows) unplaced (now (xs .entry))) r (now (xs .exit)) ⌝ }
-    ensures { λ r. ⌜ Starts p (now (delays .entry)) rows (now (xs .exit)) (now (ys .exit)) ⌝ }
+    requires { ⌜ Table p l (now delays) rows × Starts p (now delays) rows (now firsts) (now seconds) ⌝ }
+    ensures { λ r. ⌜ Descended p l (now (delays .entry)) rows unplaced budget (now (firsts .entry)) r (now (firsts .exit)) ⌝ }
+    ensures { λ r. ⌜ Starts p (now (delays .entry)) rows (now (firsts .exit)) (now (seconds .exit)) ⌝ }
 {
     if unplaced == 0 {
         return Hunt::Found(budget);
     }
+    let end = rows * ROW;
     let mut left = budget;
-    let mut k = next_step(p, xs, rows, 0);
-    while k < rows * ROW {
+    let mut k = next_step(p, firsts, rows, 0);
+    while k < end {
         if left == 0 {
             return Hunt::Spent;
         }
-        let deeper = try_step(p, l, delays, xs, ys, rows, unplaced - 1, k, left - 1);
+        let deeper = try_step(p, l, delays, firsts, seconds, rows, unplaced - 1, k, left);
         match deeper {
             Hunt::Found(rest) => {
                 return Hunt::Found(rest);
@@ -192,25 +273,11 @@ fn descend(
             }
             Hunt::Nothing(rest) => {
                 left = rest;
-                k = next_step(p, xs, rows, k + 1);
+                k = next_step(p, firsts, rows, k + 1);
             }
         }
     }
     Hunt::Nothing(left)
-}
-
-// The delays within the period.
-fn reduced(p: u32, delays: &[u32]) -> [u32; 64]
-    requires { ⌜ (0 < p) × (length (now delays) ≤ maxRows) ⌝ }
-    ensures { λ r. ⌜ ((i : ℕ) → getD r i 0 ≡ getD (now (delays .entry)) i 0 % p) ⌝ }
-{
-    let mut turns = [0u32; 64];
-    let mut i: usize = 0;
-    while i < delays.len() {
-        turns[i] = delays[i] % p;
-        i += 1;
-    }
-    turns
 }
 
 // The front of `to` is replaced by `from`.
@@ -223,54 +290,4 @@ fn copy_out(from: &[u32], to: &mut [u32])
         to[i] = from[i];
         i += 1;
     }
-}
-
-// The answer for values in range.
-fn plan(link: Link, delays: &[u32], budget: u64, offsets: &mut [u32]) -> Answer
-    requires { ⌜ GoodTable link (now delays) × (length (now delays) ≤ length (now offsets)) ⌝ }
-    ensures { λ r. ⌜ said r ≡ outcome budget (length (now (delays .entry))) (now (offsets .entry)) (planned (link .period) (spanOf link) (now (delays .entry))) .says ⌝ }
-    ensures { λ r. ⌜ now (offsets .exit) ≡ outcome budget (length (now (delays .entry))) (now (offsets .entry)) (planned (link .period) (spanOf link) (now (delays .entry))) .leaves ⌝ }
-{
-    let p = link.period;
-    let l = link::span(link);
-    let rows = delays.len();
-    let turns = reduced(p, delays);
-    let mut xs = [p; 64];
-    let mut ys = [0u32; 64];
-    xs[0] = 0;
-    ys[0] = turns[0];
-    match descend(p, l, &turns, &mut xs, &mut ys, rows, rows - 1, budget) {
-        Hunt::Found(left) => {
-            copy_out(&xs[..rows], offsets);
-            Answer::Plan {
-                tests: budget - left,
-            }
-        }
-        Hunt::Nothing(left) => Answer::None {
-            tests: budget - left,
-        },
-        Hunt::Spent => Answer::Spent { tests: budget },
-    }
-}
-
-// The offsets of the least whole build. 5, 6, 8, 7, 11, 12, then 15, 14 or a plan.
-pub fn exact(link: Link, delays: &[u32], budget: u64, offsets: &mut [u32]) -> Answer
-    ensures { λ r. ⌜ Answers link (now (delays .entry)) budget (now (offsets .entry)) r (now (offsets .exit)) ⌝ }
-{
-    match link::judge::exact(link, delays, offsets.len()) {
-        Judged::Fault { number, place } => Answer::Refused { number, place },
-        Judged::Fine => plan(link, delays, budget, offsets),
-    }
-}
-
-const CEILINGS: [u64; 9] = [0, 0, 2, 20, 342, 10472, 509930, 36086652, 3493657790];
-
-// A number that the tests of so many rows never pass; 0 where the planner takes no such table.
-pub fn ceiling(rows: usize) -> u64
-    ensures { λ r. ⌜ r ≡ ceilingUpTo rows ⌝ }
-{
-    if rows > MAX_EXACT_ROWS {
-        return 0;
-    }
-    CEILINGS[rows]
 }

@@ -1,8 +1,7 @@
 -- The two functions call each other. What falls is the work that is left: the rows not yet placed, then the candidates of the row at hand.
 -- `descend` goes over the candidates: an answer to those from k on, with the tests that are left, is an answer to the whole (Looping).
 -- `try_step` goes one row deeper at a good candidate, and puts the row's number back where nothing was found (Trying).
-use mathlib.Core.Path.{_≡_, sym, _∙_}
-use Prim.Native.Nat.{ℕ, _+_, _-_, _*_, _/_, _<_, _≤_}
+use Prim.Native.Nat.{ℕ, _+_, _-_, _*_, _/_, _<_}
 use native.Mathlib.Omega.{arith}
 use borrow.Author.Needs.{needs}
 use borrow.Fn.Kinds.{In}
@@ -25,10 +24,11 @@ use Rattle.search.proofs.turn.Reads as turn-reads
 use Rattle.search.proofs.+descend+try_step.{statement}
 use Rattle.search.proofs.+descend+try_step.Tie.{close}
 
--- as many steps as numbers stand for
+-- the numbers of steps
 abbrev candidates : ℕ
 candidates = maxRows * (2 * maxRows)
 
+-- in both the argument at .1 .1 .1 .1 .1 .1 .0 is `unplaced`, and in `try_step` the next is the step's number
 abbrev μ-descend : Measures 3 descend-kinds.ps ℕ
 μ-descend κs a = a .1 .1 .1 .1 .1 .1 .0 * (candidates + 1)
 
@@ -64,48 +64,37 @@ given-try-step t = (
 )
 
 abbrev descend-Inv-loop : descend-lts.InvT-loop
-descend-Inv-loop p l delays xs₀ ys₀ rows unplaced budget left₀ k₀ xs ys left k = Going p l delays rows unplaced budget xs₀ xs ys left k
+descend-Inv-loop p l delays xs₀ ys₀ rows unplaced budget end left₀ k₀ xs ys left k = Going p l delays rows unplaced budget xs₀ xs ys left k
 
 abbrev descend-μ-loop : descend-lts.MeasureT-loop
-descend-μ-loop p l delays xs₀ ys₀ rows unplaced budget left₀ k₀ xs ys left k = rows * (2 * maxRows) - k
+descend-μ-loop p l delays xs₀ ys₀ rows unplaced budget end left₀ k₀ xs ys left k = rows * (2 * maxRows) - k
 
 descend-returns : (t : ℕ) → descend-lts.Need-returns (given-descend t) (descend-at t) descend.Post descend-Inv-loop descend-μ-loop
 descend-returns t c = (whole _ _ _ _ (c .if1 .taken), c .before .pre .1 .1)
-
-descend-next-step-requires : (t : ℕ) → descend-lts.Need-next-step-requires (given-descend t) (descend-at t) descend.Post descend-Inv-loop descend-μ-loop
-descend-next-step-requires t c κs = search needs
 
 descend-loop-holds : (t : ℕ) → descend-lts.Need-loop-holds (given-descend t) (descend-at t) descend.Post descend-Inv-loop descend-μ-loop
 descend-loop-holds t c =
     let e = c .before .before in
     begins _ _ _ _ (e .before .pre .1 .0) _ (e .if1 .left) _ _ _ _ (e .before .pre .1 .1) (c .next-step .ensures)
 
-descend-mul-loop : (t : ℕ) → descend-lts.Need-mul-loop (given-descend t) (descend-at t) descend.Post descend-Inv-loop descend-μ-loop
-descend-mul-loop t c = search needs
-
 descend-returns-2 : (t : ℕ) → descend-lts.Need-returns-2 (given-descend t) (descend-at t) descend.Post descend-Inv-loop descend-μ-loop
 descend-returns-2 t c =
     let g = c .before .before in
-    let e = g .before .before .before in
-    (is-broke _ _ _ _ (e .before .pre .1 .0) _ (e .if1 .left) _ _ _ _ _ _ (g .loop .inv) (c .before .loop-test .taken) (c .if2 .taken), g .loop .inv .starts)
+    let e = g .before .before .before in (
+      is-broke _ _ _ _ (e .before .pre .1 .0) _ (e .if1 .left) _ _ _ _ _ _ (g .loop .inv) (c .before .loop-test .taken) (c .if2 .taken),
+      g .loop .inv .starts,
+    )
 
-descend-sub-try-step : (t : ℕ) → descend-lts.Need-sub-try-step (given-descend t) (descend-at t) descend.Post descend-Inv-loop descend-μ-loop
-descend-sub-try-step t c = search needs
-
-descend-sub-try-step-2 : (t : ℕ) → descend-lts.Need-sub-try-step-2 (given-descend t) (descend-at t) descend.Post descend-Inv-loop descend-μ-loop
-descend-sub-try-step-2 t c = search needs
-
-descend-try-step-requires : (t : ℕ) → descend-lts.Need-try-step-requires (given-descend t) (descend-at t) descend.Post descend-Inv-loop descend-μ-loop
+descend-try-step-requires : (t : ℕ) → descend-lts.Need-try-step-requires (given-descend t)
+    (descend-at t) descend.Post descend-Inv-loop descend-μ-loop
 descend-try-step-requires t c κs =
     let i = c .before .before .before in
     let g = i .before in
     let e = g .before .before .before in
     let h = e .before .pre .1 .0 .rows in
     let m : (e .before .args .unplaced - 1) * (candidates + 1) + (candidates - g .loop .k) < t = omega (arith, e, i .loop-test .taken) in
-    (m, (e .before .pre .1 .0, g .loop .inv .starts, i .loop-test .taken, g .loop .inv .lands (i .loop-test .taken)))
-
-descend-enum-known-deeper : (t : ℕ) → descend-lts.Need-enum-known-deeper (given-descend t) (descend-at t) descend.Post descend-Inv-loop descend-μ-loop
-descend-enum-known-deeper t c = search needs
+    let some : 0 < g .loop .left = omega (arith, c .before .before .if2 .left) in
+    (m, (e .before .pre .1 .0, g .loop .inv .starts, i .loop-test .taken, g .loop .inv .lands (i .loop-test .taken), some))
 
 descend-returns-3 : (t : ℕ) → descend-lts.Need-returns-3 (given-descend t) (descend-at t) descend.Post descend-Inv-loop descend-μ-loop
 descend-returns-3 t c =
@@ -113,13 +102,10 @@ descend-returns-3 t c =
     let i = w .before .before .before .before in
     let g = i .before in
     let e = g .before .before .before in (
-      one-finds _ _ _ _ (e .before .pre .1 .0) _ (e .if1 .left) _ _ _ _ _ _ (g .loop .inv) (i .loop-test .taken) (w .before .before .before .if2 .left) _ _
+      one-finds _ _ _ _ (e .before .pre .1 .0) _ (e .if1 .left) _ _ _ _ _ _ (g .loop .inv) (i .loop-test .taken) _ _
           (told-as (c .before .deeper .given .1) (w .try-step .ensures .0)),
       w .try-step .ensures .1,
     )
-
-descend-enum-told : (t : ℕ) → descend-lts.Need-enum-told (given-descend t) (descend-at t) descend.Post descend-Inv-loop descend-μ-loop
-descend-enum-told t c = search needs
 
 descend-returns-4 : (t : ℕ) → descend-lts.Need-returns-4 (given-descend t) (descend-at t) descend.Post descend-Inv-loop descend-μ-loop
 descend-returns-4 t c =
@@ -127,22 +113,10 @@ descend-returns-4 t c =
     let i = w .before .before .before .before in
     let g = i .before in
     let e = g .before .before .before in (
-      one-runs-out _ _ _ _ (e .before .pre .1 .0) _ (e .if1 .left) _ _ _ _ _ _ (g .loop .inv) (i .loop-test .taken) (w .before .before .before .if2 .left) _
+      one-runs-out _ _ _ _ (e .before .pre .1 .0) _ (e .if1 .left) _ _ _ _ _ _ (g .loop .inv) (i .loop-test .taken) _
           (told-as (c .enum-told .given .1) (w .try-step .ensures .0)),
       w .try-step .ensures .1,
     )
-
-descend-enum-known-deeper-2 : (t : ℕ) → descend-lts.Need-enum-known-deeper-2 (given-descend t) (descend-at t) descend.Post descend-Inv-loop descend-μ-loop
-descend-enum-known-deeper-2 t c = search needs
-
-descend-add-next-step : (t : ℕ) → descend-lts.Need-add-next-step (given-descend t) (descend-at t) descend.Post descend-Inv-loop descend-μ-loop
-descend-add-next-step t c = search needs
-
-descend-next-step-requires-2 : (t : ℕ) → descend-lts.Need-next-step-requires-2 (given-descend t) (descend-at t) descend.Post descend-Inv-loop descend-μ-loop
-descend-next-step-requires-2 t c κs = search needs
-
-descend-loop-less : (t : ℕ) → descend-lts.Need-loop-less (given-descend t) (descend-at t) descend.Post descend-Inv-loop descend-μ-loop
-descend-loop-less t c = search needs
 
 descend-loop-again : (t : ℕ) → descend-lts.Need-loop-again (given-descend t) (descend-at t) descend.Post descend-Inv-loop descend-μ-loop
 descend-loop-again t c =
@@ -151,7 +125,7 @@ descend-loop-again t c =
     let i = w .before .before .before .before in
     let g = i .before in
     let e = g .before .before .before in
-    one-in-vain _ _ _ _ (e .before .pre .1 .0) _ (e .if1 .left) _ _ _ _ _ _ (g .loop .inv) (i .loop-test .taken) (w .before .before .before .if2 .left) _ _ _ _
+    one-in-vain _ _ _ _ (e .before .pre .1 .0) _ (e .if1 .left) _ _ _ _ _ _ (g .loop .inv) (i .loop-test .taken) _ _ _ _
     (told-as (u .deeper2 .given .1) (w .try-step .ensures .0)) (w .try-step .ensures .1) (c .next-step2 .ensures)
 
 descend-returns-5 : (t : ℕ) → descend-lts.Need-returns-5 (given-descend t) (descend-at t) descend.Post descend-Inv-loop descend-μ-loop
@@ -160,22 +134,10 @@ descend-returns-5 t c =
     let e = g .before .before .before in
     (no-more _ _ _ _ (e .before .pre .1 .0) _ (e .if1 .left) _ _ _ _ _ _ (g .loop .inv) (c .loop-test .left), g .loop .inv .starts)
 
-try-step-offset-requires : (t : ℕ) → try-step-lts.Need-offset-requires (given-try-step t) (try-step-at t) try-step.Post
-try-step-offset-requires t c κs = search needs
-
-try-step-mul-turn : (t : ℕ) → try-step-lts.Need-mul-turn (given-try-step t) (try-step-at t) try-step.Post
-try-step-mul-turn t c = search needs
-
-try-step-element-copy-out-turn : (t : ℕ) → try-step-lts.Need-element-copy-out-turn (given-try-step t) (try-step-at t) try-step.Post
-try-step-element-copy-out-turn t c = search needs
-
 try-step-turn-requires : (t : ℕ) → try-step-lts.Need-turn-requires (given-try-step t) (try-step-at t) try-step.Post
 try-step-turn-requires t c κs =
     let e = c .before .before .before .before in
     omega (arith, c .before .offset .ensures, e .pre .1 .0, e .pre .1 .0 .delays (e .args .k / (2 * maxRows)))
-
-try-step-is-free-requires : (t : ℕ) → try-step-lts.Need-is-free-requires (given-try-step t) (try-step-at t) try-step.Post
-try-step-is-free-requires t c κs = search needs
 
 try-step-returns : (t : ℕ) → try-step-lts.Need-returns (given-try-step t) (try-step-at t) try-step.Post
 try-step-returns t c =
@@ -183,26 +145,11 @@ try-step-returns t c =
     let u = f .before .before .before in
     let o = u .before .before in
     let e = o .before .before .before in
-    let q = e .pre .1 in
-    (hands-over _ _ _ _ (q .0) _ _ (q .1) (e .args .k) _ _ (o .offset .ensures) (u .turn .ensures .0) _ (f .is-free .ensures) (q .3) _ _ (c .if1 .taken), q .1)
-
-try-step-mul-old : (t : ℕ) → try-step-lts.Need-mul-old (given-try-step t) (try-step-at t) try-step.Post
-try-step-mul-old t c = search needs
-
-try-step-element-copy-out-old : (t : ℕ) → try-step-lts.Need-element-copy-out-old (given-try-step t) (try-step-at t) try-step.Post
-try-step-element-copy-out-old t c = search needs
-
-try-step-mul-xs : (t : ℕ) → try-step-lts.Need-mul-xs (given-try-step t) (try-step-at t) try-step.Post
-try-step-mul-xs t c = search needs
-
-try-step-element-write-xs : (t : ℕ) → try-step-lts.Need-element-write-xs (given-try-step t) (try-step-at t) try-step.Post
-try-step-element-write-xs t c = search needs
-
-try-step-mul-ys : (t : ℕ) → try-step-lts.Need-mul-ys (given-try-step t) (try-step-at t) try-step.Post
-try-step-mul-ys t c = search needs
-
-try-step-element-write-ys : (t : ℕ) → try-step-lts.Need-element-write-ys (given-try-step t) (try-step-at t) try-step.Post
-try-step-element-write-ys t c = search needs
+    let q = e .pre .1 in (
+      hands-over _ _ _ _ (q .0) _ _ (q .1) (e .args .k) _ _ (o .offset .ensures) (u .turn .ensures .0) _ (f .is-free .ensures) (q .3) _ _
+          (q .4) (c .if1 .taken),
+      q .1,
+    )
 
 try-step-descend-requires : (t : ℕ) → try-step-lts.Need-descend-requires (given-try-step t) (try-step-at t) try-step.Post
 try-step-descend-requires t c κs =
@@ -216,27 +163,6 @@ try-step-descend-requires t c κs =
     let m : e .args .unplaced * (candidates + 1) < t = omega (arith, e, q .2) in
     (m, (q .0, starts-put _ _ _ h _ _ (q .1) _ (w .row-low) _ _ (u .turn .ensures .0)))
 
-try-step-enum-known-deeper : (t : ℕ) → try-step-lts.Need-enum-known-deeper (given-try-step t) (try-step-at t) try-step.Post
-try-step-enum-known-deeper t c = search needs
-
-try-step-enum-known-deeper-2 : (t : ℕ) → try-step-lts.Need-enum-known-deeper-2 (given-try-step t) (try-step-at t) try-step.Post
-try-step-enum-known-deeper-2 t c = search needs
-
-try-step-mul-xs-2 : (t : ℕ) → try-step-lts.Need-mul-xs-2 (given-try-step t) (try-step-at t) try-step.Post
-try-step-mul-xs-2 t c = search needs
-
-try-step-element-write-xs-2 : (t : ℕ) → try-step-lts.Need-element-write-xs-2 (given-try-step t) (try-step-at t) try-step.Post
-try-step-element-write-xs-2 t c = search needs
-
-try-step-enum-told : (t : ℕ) → try-step-lts.Need-enum-told (given-try-step t) (try-step-at t) try-step.Post
-try-step-enum-told t c = search needs
-
-try-step-mul-xs-3 : (t : ℕ) → try-step-lts.Need-mul-xs-3 (given-try-step t) (try-step-at t) try-step.Post
-try-step-mul-xs-3 t c = search needs
-
-try-step-element-write-xs-3 : (t : ℕ) → try-step-lts.Need-element-write-xs-3 (given-try-step t) (try-step-at t) try-step.Post
-try-step-element-write-xs-3 t c = search needs
-
 try-step-returns-2 : (t : ℕ) → try-step-lts.Need-returns-2 (given-try-step t) (try-step-at t) try-step.Post
 try-step-returns-2 t c =
     let w = c .before .before .before in
@@ -245,8 +171,11 @@ try-step-returns-2 t c =
     let u = f .before .before .before in
     let o = u .before .before in
     let e = o .before .before .before in
-    let q = e .pre .1 in
-    (finds _ _ _ _ (q .0) _ _ (q .1) (e .args .k) _ _ (o .offset .ensures) (u .turn .ensures .0) _ (f .is-free .ensures) (q .3) _ _ (el .if1 .left) _ _ (w .descend .ensures .1) _ (told-as (c .before .deeper .given .1) (w .descend .ensures .0)), w .descend .ensures .1)
+    let q = e .pre .1 in (
+      finds _ _ _ _ (q .0) _ _ (q .1) (e .args .k) _ _ (o .offset .ensures) (u .turn .ensures .0) _ (f .is-free .ensures) (q .3) _ _ (q .4)
+          (el .if1 .left) _ _ (w .descend .ensures .1) _ (told-as (c .before .deeper .given .1) (w .descend .ensures .0)),
+      w .descend .ensures .1,
+    )
 
 try-step-returns-3 : (t : ℕ) → try-step-lts.Need-returns-3 (given-try-step t) (try-step-at t) try-step.Post
 try-step-returns-3 t c =
@@ -257,7 +186,8 @@ try-step-returns-3 t c =
     let o = u .before .before in
     let e = o .before .before .before in
     let q = e .pre .1 in
-    in-vain _ _ _ _ (q .0) _ _ (q .1) (e .args .k) _ _ (o .offset .ensures) (u .turn .ensures .0) _ (f .is-free .ensures) (q .3) _ _ (el .if1 .left) _ _ (w .descend .ensures .1) _ (told-as (c .before .deeper2 .given .1) (w .descend .ensures .0))
+    in-vain _ _ _ _ (q .0) _ _ (q .1) (e .args .k) _ _ (o .offset .ensures) (u .turn .ensures .0) _ (f .is-free .ensures) (q .3) _ _
+    (q .4) (el .if1 .left) _ _ (w .descend .ensures .1) _ (told-as (c .before .deeper2 .given .1) (w .descend .ensures .0))
 
 try-step-returns-4 : (t : ℕ) → try-step-lts.Need-returns-4 (given-try-step t) (try-step-at t) try-step.Post
 try-step-returns-4 t c =
@@ -268,69 +198,51 @@ try-step-returns-4 t c =
     let o = u .before .before in
     let e = o .before .before .before in
     let q = e .pre .1 in
-    runs-out _ _ _ _ (q .0) _ _ (q .1) (e .args .k) _ _ (o .offset .ensures) (u .turn .ensures .0) _ (f .is-free .ensures) (q .3) _ _ (el .if1 .left) _ _ (w .descend .ensures .1) (told-as (c .enum-told .given .1) (w .descend .ensures .0))
+    runs-out _ _ _ _ (q .0) _ _ (q .1) (e .args .k) _ _ (o .offset .ensures) (u .turn .ensures .0) _ (f .is-free .ensures) (q .3) _ _
+    (q .4) (el .if1 .left) _ _ (w .descend .ensures .1) (told-as (c .enum-told .given .1) (w .descend .ensures .0))
 
 pub +descend+try-step-spec : {M : Type 1} → statement M
-+descend+try-step-spec = close μ-descend μ-try-step (λ t. descend-lts.spec (
-  next-step-reads.Asked,
-  next-step-reads.Learnt,
-  try-step-below t,
-  try-step.Post,
-)
-    (descend-at t)
-    descend.Post
-    descend-Inv-loop
-    descend-μ-loop
++descend+try-step-spec = close μ-descend μ-try-step
+    (λ t. descend-lts.spec (given-descend t) (descend-at t) descend.Post descend-Inv-loop descend-μ-loop
     (descend-returns t)
-    (descend-next-step-requires t)
+    (λ c. search needs)
+    (λ c κs. search needs)
     (descend-loop-holds t)
-    (descend-mul-loop t)
     (descend-returns-2 t)
-    (descend-sub-try-step t)
-    (descend-sub-try-step-2 t)
+    (λ c. search needs)
     (descend-try-step-requires t)
-    (descend-enum-known-deeper t)
+    (λ c. search needs)
     (descend-returns-3 t)
-    (descend-enum-told t)
+    (λ c. search needs)
     (descend-returns-4 t)
-    (descend-enum-known-deeper-2 t)
-    (descend-add-next-step t)
-    (descend-next-step-requires-2 t)
-    (descend-loop-less t)
+    (λ c. search needs)
+    (λ c. search needs)
+    (λ c κs. search needs)
+    (λ c. search needs)
     (descend-loop-again t)
     (descend-returns-5 t))
-    λ t. try-step-lts.spec (
-      offset-reads.Asked,
-      offset-reads.Learnt,
-      turn-reads.Asked,
-      turn-reads.Learnt,
-      is-free-reads.Asked,
-      is-free-reads.Learnt,
-      descend-below t,
-      descend.Post,
-    )
-    (try-step-at t)
-    try-step.Post
-    (try-step-offset-requires t)
-    (try-step-mul-turn t)
-    (try-step-element-copy-out-turn t)
+    λ t. try-step-lts.spec (given-try-step t) (try-step-at t) try-step.Post
+    (λ c. search needs)
+    (λ c κs. search needs)
+    (λ c. search needs)
+    (λ c. search needs)
     (try-step-turn-requires t)
-    (try-step-is-free-requires t)
+    (λ c κs. search needs)
     (try-step-returns t)
-    (try-step-mul-old t)
-    (try-step-element-copy-out-old t)
-    (try-step-mul-xs t)
-    (try-step-element-write-xs t)
-    (try-step-mul-ys t)
-    (try-step-element-write-ys t)
+    (λ c. search needs)
+    (λ c. search needs)
+    (λ c. search needs)
+    (λ c. search needs)
+    (λ c. search needs)
+    (λ c. search needs)
     (try-step-descend-requires t)
-    (try-step-enum-known-deeper t)
-    (try-step-enum-known-deeper-2 t)
-    (try-step-mul-xs-2 t)
-    (try-step-element-write-xs-2 t)
-    (try-step-enum-told t)
-    (try-step-mul-xs-3 t)
-    (try-step-element-write-xs-3 t)
+    (λ c. search needs)
+    (λ c. search needs)
+    (λ c. search needs)
+    (λ c. search needs)
+    (λ c. search needs)
+    (λ c. search needs)
+    (λ c. search needs)
     (try-step-returns-2 t)
     (try-step-returns-3 t)
     (try-step-returns-4 t)

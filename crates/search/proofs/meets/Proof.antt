@@ -20,7 +20,8 @@ apart-requires-2 : tie.Need-apart-requires-2
 apart-requires-2 c κs = search needs
 
 returns-3 : tie.Need-returns-3
-returns-3 c = ap not (c .apart2 .ensures) ∙ second-decides _ _ _ _ _ _ (omega arith) (ap not (sym (c .before .before .apart .ensures)) ∙ c .before .if2 .left)
+returns-3 c = ap not (c .apart2 .ensures) ∙ second-decides _ _ _ _ _ _ (omega arith)
+    (ap not (sym (c .before .before .apart .ensures)) ∙ c .before .if2 .left)
 
 pub meets-spec : {M : Type 1} → statement M
 meets-spec = tie.close (tie.spec returns apart-requires returns-2 apart-requires-2 returns-3)

@@ -1,6 +1,5 @@
 -- Invariant: no number from the first on, and below k, stands for a step.
-use mathlib.Core.Path.{_≡_, sym, ap, _∙_}
-use Prim.Native.Nat.{ℕ, _-_, _*_, _≤_, _<_}
+use Prim.Native.Nat.{_-_, _*_, _≤_}
 use native.Mathlib.Omega.{arith}
 use Rattle.link.specs.Limits.{maxRows}
 use Rattle.search.proofs.Numbers.{Skipped, is-step, skip-row, skip-rest, skip-pair}

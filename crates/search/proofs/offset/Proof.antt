@@ -38,7 +38,8 @@ turn-requires-2 c κs =
     let t = e .pre .0 in
     let w = names-at _ _ _ (e .args .k) (e .pre .2) in
     let q = e .pre .1 .seconds (e .args .k / 2 % maxRows) (w .beside-low) (w .beside-placed) in
-    let h = second-low (e .args .p) (getD (e .args .delays .now) (e .args .k / 2 % maxRows) 0) (getD (e .args .xs .now) (e .args .k / 2 % maxRows) 0) (omega (arith, t)) in
+    let h = second-low (e .args .p) (getD (e .args .delays .now) (e .args .k / 2 % maxRows) 0)
+    (getD (e .args .firsts .now) (e .args .k / 2 % maxRows) 0) (omega (arith, t)) in
     omega (arith, t)
 
 mul-turn-3 : tie.Need-mul-turn-3
@@ -64,8 +65,11 @@ returns-2 c =
     let r = c .before .before in
     let e = r .before .before .before in
     let w = names-at _ _ _ (e .args .k) (e .pre .2) in
-    let q = e .pre .1 .seconds (e .args .k / 2 % maxRows) (w .beside-low) (w .beside-placed) in
-    (puts-two _ _ _ _ (e .args .k) (r .before .before .if1 .left) (e .pre .0 .delays _) _ _ _ q (r .turn2 .ensures .0) (c .turn3 .ensures .0), omega arith)
+    let q = e .pre .1 .seconds (e .args .k / 2 % maxRows) (w .beside-low) (w .beside-placed) in (
+      puts-two _ _ _ _ (e .args .k) (r .before .before .if1 .left) (e .pre .0 .delays _) _ _ _ q (r .turn2 .ensures .0)
+          (c .turn3 .ensures .0),
+      omega arith,
+    )
 
 pub offset-spec : {M : Type 1} → statement M
 offset-spec =

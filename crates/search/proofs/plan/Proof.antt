@@ -1,14 +1,12 @@
 -- The table is put within the period, the search starts from row 0, and its answer is told in the paper's words.
-use mathlib.Core.Path.{_≡_, sym, ap, _∙_}
-use mathlib.Core.List.{_++_}
-use Prim.Native.Nat.{ℕ, _≤_}
+use mathlib.Core.Path.{sym, ap, _∙_}
 use native.Mathlib.Omega.{arith}
-use lib.ListN.{length, drop}
+use lib.ListN.{length}
 use lib.Seq.{length-take-le}
-use Rattle.link.specs.Limits.{maxRows}
 use Rattle.search.specs.Answer.{Outcome, said, outcome}
 use Rattle.search.proofs.Answering.{told-as, is-found, is-nothing}
-use Rattle.search.proofs.Planning.{begin-starts, low-delays, turns-table, is-planned, found-outcome, nothing-outcome, spent-outcome, in-array, copied-out}
+use Rattle.search.proofs.Planning.{begin-starts, low-delays, turns-table, is-planned, found-outcome, nothing-outcome}
+use Rattle.search.proofs.Planning.{spent-outcome, in-array, copied-out}
 use borrow.Author.Needs.{needs}
 use Rattle.search.proofs.plan.Statement.{statement}
 use Rattle.search.proofs.plan.Tie as tie
@@ -19,14 +17,14 @@ span-requires c κs = search needs
 reduced-requires : tie.Need-reduced-requires
 reduced-requires c κs = search needs
 
-array-write-xs : tie.Need-array-write-xs
-array-write-xs c = search needs
+array-write-firsts : tie.Need-array-write-firsts
+array-write-firsts c = search needs
 
-array-read-ys : tie.Need-array-read-ys
-array-read-ys c = search needs
+array-read-seconds : tie.Need-array-read-seconds
+array-read-seconds c = search needs
 
-array-write-ys : tie.Need-array-write-ys
-array-write-ys c = search needs
+array-write-seconds : tie.Need-array-write-seconds
+array-write-seconds c = search needs
 
 sub-descend : tie.Need-sub-descend
 sub-descend c = search needs
@@ -34,14 +32,17 @@ sub-descend c = search needs
 descend-requires : tie.Need-descend-requires
 descend-requires c κs =
     let r = c .before .before .before in
-    let e = r .before .before .before .before in
-    (turns-table _ _ (r .before .span .ensures) _ (r .reduced .result) (e .pre .0) (r .reduced .ensures), begin-starts _ _ _ (e .pre .0 .rows-high) (low-delays _ _ (r .before .span .ensures) _ (r .reduced .result) (e .pre .0) (r .reduced .ensures) 0))
+    let e = r .before .before .before .before in (
+      turns-table _ _ (r .before .span .ensures) _ (r .reduced .result) (e .pre .0) (r .reduced .ensures),
+      begin-starts _ _ _
+          (e .pre .0 .rows-high) (low-delays _ _ (r .before .span .ensures) _ (r .reduced .result) (e .pre .0) (r .reduced .ensures) 0),
+    )
 
 enum-known-left : tie.Need-enum-known-left
 enum-known-left c = search needs
 
-array-share-prefix-xs : tie.Need-array-share-prefix-xs
-array-share-prefix-xs c = search needs
+array-share-prefix-firsts : tie.Need-array-share-prefix-firsts
+array-share-prefix-firsts c = search needs
 
 slice-aggregate-copy-out : tie.Need-slice-aggregate-copy-out
 slice-aggregate-copy-out c =
@@ -89,7 +90,8 @@ returns c =
     let o = ap (outcome _ _ _) (sym (is-planned _ _ (r .before .span .ensures) _ (r .reduced .result) (e .pre .0) (r .reduced .ensures)))
     ∙ found-outcome _ _ _ _ _ _ _ (told-as (f .left .given .1) (d .descend .ensures .0)) in (
       ap (λ (x : Outcome). x .says) (sym o),
-      copied-out (length (e .args .delays .now)) (d .descend .last .1 .1 .1 .0) _ _ (d .descend .ensures .1 .xs-length) (e .pre .0 .rows-high) (u .copy-out .ensures)
+      copied-out (length (e .args .delays .now)) (d .descend .last .1 .1 .1 .0) _ _ (d .descend .ensures .1 .xs-length)
+          (e .pre .0 .rows-high) (u .copy-out .ensures)
           ∙ ap (λ (x : Outcome). x .leaves) (sym o),
     )
 
@@ -120,13 +122,13 @@ plan-spec =
     (tie.spec
     span-requires
     reduced-requires
-    array-write-xs
-    array-read-ys
-    array-write-ys
+    array-write-firsts
+    array-read-seconds
+    array-write-seconds
     sub-descend
     descend-requires
     enum-known-left
-    array-share-prefix-xs
+    array-share-prefix-firsts
     slice-aggregate-copy-out
     copy-out-requires
     sub-t32
