@@ -3,4 +3,5 @@ pub mod Adding
 pub mod Spelling
 pub mod Lines
 pub mod Showing
+pub mod Promises
 pub mod Worked

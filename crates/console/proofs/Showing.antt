@@ -20,7 +20,6 @@ use Rattle.text.specs.declared.Read.{Read}
 use Rattle.text.specs.declared.Read.the-variants.{Table}
 use Rattle.search.specs.Answer.{Verdict, plan, nothing, spent, refusal, Said, said, Outcome, gives, outcome, judged, exactly, Answers}
 use Rattle.search.specs.Builds as builds
-use Rattle.link.specs.Rows.{spanOf}
 use Rattle.search.specs.Ceilings.{ceilingUpTo}
 use Rattle.search.specs.declared.Answer.{Answer}
 use Rattle.search.specs.declared.Answer.the-variants.{Plan}
@@ -47,7 +46,7 @@ module _ (k : Link) (ds : List ℕ) (budget : ℕ) (r : Answer) (new : List ℕ)
   unfolding exactly said
   plan-few t e = go (first (exactFaults k ds (length blank))) refl (sym (ap said e) ∙ a .told)
     where
-      go : (f : Judged) → first (exactFaults k ds (length blank)) ≡ f → said (Plan t) ≡ judged f (outcome budget (length ds) blank (builds.planned (k .period) (spanOf k) ds)) blank .says → length ds ≤ maxExactRows
+      go : (f : Judged) → first (exactFaults k ds (length blank)) ≡ f → said (Plan t) ≡ judged f (outcome budget (length ds) blank (builds.planned k ds)) blank .says → length ds ≤ maxExactRows
       go Fine f g = good-exact k ds (length blank) f .2
       go (Fault n q) f g = clash {x = false} (sym (ap (λ (z : Said). isPlan (z .verdict)) g)) refl
 

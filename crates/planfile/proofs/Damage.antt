@@ -1,6 +1,6 @@
 -- A file cut anywhere ends inside its tag or inside a number. Assumes nothing.
 use mathlib.Core.Path.{_≡_, refl, sym, ap, _∙_}
-use mathlib.Core.List.{List, [], _∷_, _++_, append-assoc, append-nil}
+use mathlib.Core.List.{List, [], _∷_, _++_, append-nil}
 use mathlib.Core.Logic.{⊎-elim}
 use Prim.Native.Nat.{ℕ, zero, suc, _+_, _-_, _≤_, _<_}
 use native.Mathlib.Omega.{arith}
@@ -18,7 +18,7 @@ use Rattle.planfile.specs.Reading.{meaning}
 use Rattle.planfile.specs.declared.Number.the-variants.{Cut}
 use Rattle.planfile.proofs.Encoding.{number-cut}
 use Rattle.planfile.proofs.Steps.{number-form}
-use Rattle.planfile.proofs.RoundTrip.{number-passed, InRows, in-rows, later-rows, both}
+use Rattle.planfile.proofs.RoundTrip.{number-passed, InRows, in-rows, later-rows, three, both, both-more}
 
 -- the step s was cut off, or it got a, and a part of the rest stands after it, not the whole
 pub data Either {A : Type 0} (s : Step A) (a : A) (bs rest : List ℕ) : Type 0 where
@@ -57,7 +57,7 @@ header-either bs rest at m k ds g e c =
     let period = numberBytes (k .period) in
     let size = numberBytes (k .size) in
     let count = numberBytes (length ds) in
-    let all : (period ++ (size ++ count)) ++ rest ≡ period ++ (size ++ (count ++ rest)) = rw (append-assoc, append-assoc) in
+    let all = three period size count rest in
     then (number bs at 1 maxPeriod badPeriod) _ (k .period) _ bs (size ++ (count ++ rest)) rest
     (number-either bs _ at m 1 maxPeriod badPeriod (k .period) (g .period-low) (g .period-high) (omega (arith, g .period-high))
     (e ∙ ap (take m) all) (rw all at c))
@@ -90,13 +90,10 @@ rows-either bs rest p at m xs ys [] [] h w e c = on at m (rw (append-nil xs, app
 rows-either bs rest p at m xs ys [] (o ∷ os) h w e c = absurd (omega (arith, w .as-many))
 rows-either bs rest p at m xs ys (d ∷ ds) [] h w e c = absurd (omega (arith, w .as-many))
 rows-either bs rest p at m xs ys (d ∷ ds) (o ∷ os) h w e c =
-    let all : (numberBytes d ++ (numberBytes o ++ rowsBytes ds os)) ++ rest ≡ numberBytes d ++
-    (numberBytes o ++ (rowsBytes ds os ++ rest)) = rw (append-assoc, append-assoc) in
-    let values : both ((xs ++ (d ∷ [])) ++ ds) ((ys ++ (o ∷ [])) ++ os) ≡ both (xs ++ (d ∷ ds)) (ys ++ (o ∷ os)) = rw
-    (append-assoc, append-assoc) in
+    let all = three (numberBytes d) (numberBytes o) (rowsBytes ds os) rest in
     then (row bs p at) _ (record { delay = d; offset = o }) _ bs (rowsBytes ds os ++ rest) rest
     (row-either bs _ p at m d o h (w .delays 0 (omega arith)) (w .offsets 0 (omega arith)) (e ∙ ap (take m) all) (rw all at c))
-    (λ at₁ m₁ e₁ c₁. same-value values
+    (λ at₁ m₁ e₁ c₁. same-value (both-more xs ys ds os d o)
     (rows-either bs rest p at₁ m₁ (xs ++ (d ∷ [])) (ys ++ (o ∷ [])) ds os h (later-rows p d o ds os w) e₁ c₁))
 
 abbrev pub Refused16 : Meaning → Type 0

@@ -10,5 +10,6 @@ pub mod Encoding
 pub mod RoundTrip
 pub mod OneFile
 pub mod Damage
+pub mod NoSecond
 pub mod Promises
 pub mod Worked

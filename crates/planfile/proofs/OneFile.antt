@@ -21,6 +21,7 @@ use Rattle.planfile.specs.Format.{tag, headerBytes, rowsBytes, planBytes
 use Rattle.planfile.specs.Reading.{Step, got, stopped, number, begins, header, Row, row, Rows, rows, Meaning, plan, refused}
 use Rattle.planfile.specs.Reading.{means, unless, judgment, closing, body, meaning}
 use Rattle.planfile.proofs.Encoding.{drop-bytes, number-only}
+use Rattle.planfile.proofs.RoundTrip.{three}
 use Rattle.planfile.proofs.Accepting.{value-of, place-of, before, Took, took, Headed, headed}
 
 -- the bytes of a number that was got stand at its place
@@ -32,8 +33,8 @@ header-stands : (bs : List ℕ) (at : ℕ) (k : Link) (n next : ℕ) → Bytes b
     drop at bs ≡ headerBytes k n ++ drop next bs
 unfolding headerBytes
 header-stands bs at k n next h w =
-    stands bs _ _ _ _ _ h (w .period) ∙ rw (stands bs _ _ _ _ _ h (w .size), stands bs _ _ _ _ _ h (w .rows))
-    (sym (rw (append-assoc, append-assoc)))
+    let whole = three (numberBytes (k .period)) (numberBytes (k .size)) (numberBytes n) (drop next bs) in
+    stands bs _ _ _ _ _ h (w .period) ∙ rw (stands bs _ _ _ _ _ h (w .size), stands bs _ _ _ _ _ h (w .rows)) (sym whole)
 
 same-row : (bs : List ℕ) (at : ℕ) {d d′ o o′ m m′ : ℕ} → d ≡ d′ → o ≡ o′ → m ≡ m′ →
     drop at bs ≡ numberBytes d ++ (numberBytes o ++ drop m bs) → drop at bs ≡ numberBytes d′ ++ (numberBytes o′ ++ drop m′ bs)
@@ -97,6 +98,7 @@ got-rows bs p (suc n) xs ys at w end h e =
     let r = before (row bs p at) _ _ _ e in
     let g = got-row bs p at (r .value) (r .place) h (r .here) in
     let q = got-rows bs p n (xs ++ (r .value .delay ∷ [])) (ys ++ (r .value .offset ∷ [])) (r .place) w end h (r .after) in
+    let whole = three (numberBytes (r .value .delay)) (numberBytes (r .value .offset)) (rowsBytes (q .ds) (q .os)) (drop end bs) in
     record {
       ds = r .value .delay ∷ q .ds;
       os = r .value .offset ∷ q .os;
@@ -104,7 +106,9 @@ got-rows bs p (suc n) xs ys at w end h e =
       os-many = ap suc (q .os-many);
       delays = q .delays ∙ append-assoc xs (r .value .delay ∷ []) (q .ds);
       offsets = q .offsets ∙ append-assoc ys (r .value .offset ∷ []) (q .os);
-      stand = g .stands ∙ rw (q .stand) (sym (rw (append-assoc, append-assoc)));
+      stand = g .stands
+          ∙ rw (q .stand)
+          (sym (three (numberBytes (r .value .delay)) (numberBytes (r .value .offset)) (rowsBytes (q .ds) (q .os)) (drop end bs)));
       low-delays = all-cons (λ x. x ≤ maxDelay) (r .value .delay) (q .ds) (g .delay) (q .low-delays);
       low-offsets = all-cons (λ x. x ≤ p - 1) (r .value .offset) (q .os) (g .offset) (q .low-offsets);
     }

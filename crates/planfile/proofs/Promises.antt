@@ -23,12 +23,11 @@ use Rattle.planfile.specs.Format.{planBytes}
 use Rattle.planfile.specs.Reading.{got, header, Rows, rows, Meaning, plan, refused, judgment, closing, meaning}
 use Rattle.planfile.specs.Answer.{IsFileOf, Verdict, done, refusal, ReadSaid, readSaid, readsPlan, ReadGives, refuses, readGives}
 use Rattle.planfile.specs.Answer.{delivered}
-use Rattle.planfile.specs.Answer.{onFront, WrittenSaid, writtenSaid, writes, writeGives, stored, unlessFault}
+use Rattle.planfile.specs.Answer.{onFront, writes, writeGives, stored, unlessFault}
 use Rattle.planfile.specs.declared.Number.the-variants.{Value}
 use Rattle.planfile.specs.declared.PlanRead.{PlanRead}
 use Rattle.planfile.specs.declared.PlanRead.the-variants.{Plan, Refused as ReadRefused}
-use Rattle.planfile.specs.declared.PlanWritten.{PlanWritten}
-use Rattle.planfile.specs.declared.PlanWritten.the-variants.{File, Refused as WriteRefused}
+use Rattle.planfile.proofs.NoSecond.{ReadMeets}
 use Rattle.planfile.proofs.Judgment.{Unclear, judged-clear, clear-judged, unclear-judged}
 use Rattle.planfile.proofs.Encoding.{number-only, number-reads}
 use Rattle.planfile.proofs.Writing.{write-done}
@@ -38,50 +37,6 @@ use Rattle.planfile.proofs.Damage.{cut-anywhere}
 
 abbrev pub ClearPlan : Link → List ℕ → List ℕ → Type 0
 ClearPlan k ds os = GoodPlan k ds os × Clear (k .period) (spanOf k) ds os
-
--- No second answer, and no second content of lent memory, meets a contract.
-
-abbrev unread : ReadSaid → PlanRead
-unread s = unreadAs (s .verdict) s
-  where
-    unreadAs : Verdict → ReadSaid → PlanRead
-    unreadAs done s = Plan (record { period = s .period; size = s .size }) (s .rows)
-    unreadAs refusal s = ReadRefused (s .number) (s .place)
-
-read-again : (r : PlanRead) → unread (readSaid r) ≡ r
-unfolding readSaid
-read-again (Plan k n) = refl
-read-again (ReadRefused n p) = refl
-
-abbrev ReadMeets : List ℕ → List ℕ → List ℕ → PlanRead → List ℕ → List ℕ → Type 0
-ReadMeets bs oldD oldO r ds os = (readSaid r ≡ readGives bs oldD oldO .says) × (ds ≡ readGives bs oldD oldO .delays) ×
-    (os ≡ readGives bs oldD oldO .offsets)
-
-pub no-second-reading : (bs oldD oldO : List ℕ) (r r′ : PlanRead) (ds ds′ os os′ : List ℕ) → ReadMeets bs oldD oldO r ds os →
-    ReadMeets bs oldD oldO r′ ds′ os′ →
-    (r ≡ r′) × (ds ≡ ds′) × (os ≡ os′)
-no-second-reading bs oldD oldO r r′ ds ds′ os os′ w v =
-    (unique.no-second readSaid unread read-again (w .0) (v .0), w .1 ∙ sym (v .1), w .2 ∙ sym (v .2))
-
-abbrev unwritten : WrittenSaid → PlanWritten
-unwritten s = unwrittenAs (s .verdict) s
-  where
-    unwrittenAs : Verdict → WrittenSaid → PlanWritten
-    unwrittenAs done s = File (s .bytes)
-    unwrittenAs refusal s = WriteRefused (s .number) (s .place)
-
-written-again : (r : PlanWritten) → unwritten (writtenSaid r) ≡ r
-unfolding writtenSaid
-written-again (File n) = refl
-written-again (WriteRefused n p) = refl
-
-abbrev WriteMeets : Link → List ℕ → List ℕ → List ℕ → PlanWritten → List ℕ → Type 0
-WriteMeets k ds os old r bs = (writtenSaid r ≡ writeGives k ds os old .says) × (bs ≡ writeGives k ds os old .leaves)
-
-pub no-second-writing : (k : Link) (ds os old : List ℕ) (r r′ : PlanWritten) (bs bs′ : List ℕ) → WriteMeets k ds os old r bs →
-    WriteMeets k ds os old r′ bs′ →
-    (r ≡ r′) × (bs ≡ bs′)
-no-second-writing k ds os old r r′ bs bs′ w v = (unique.no-second writtenSaid unwritten written-again (w .0) (v .0), w .1 ∙ sym (v .1))
 
 -- A plan written to a file reads back the same.
 

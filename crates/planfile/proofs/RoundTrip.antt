@@ -1,5 +1,5 @@
 -- What was written reads back: number by number, row by row, from a place where the bytes stand. Assumes nothing.
-use mathlib.Core.Path.{_≡_, sym, _∙_}
+use mathlib.Core.Path.{_≡_, sym, ap, _∙_}
 use mathlib.Core.List.{List, [], _∷_, _++_, append-assoc, append-nil}
 use Prim.Native.Nat.{ℕ, suc, _+_, _-_, _≤_, _<_}
 use native.Mathlib.Omega.{arith}
@@ -14,6 +14,18 @@ use Rattle.planfile.specs.Reading.{Step, got, number, begins, header, ro
 use Rattle.planfile.proofs.Numbers.{few-groups}
 use Rattle.planfile.proofs.Encoding.{number-reads}
 use Rattle.planfile.proofs.Steps.{number-in}
+
+-- three lists and a rest
+pub three : (xs ys zs rest : List ℕ) → (xs ++ (ys ++ zs)) ++ rest ≡ xs ++ (ys ++ (zs ++ rest))
+three xs ys zs rest = rw (append-assoc, append-assoc)
+
+abbrev pub both : List ℕ → List ℕ → Rows
+both ds os = record { delays = ds; offsets = os }
+
+-- one row more in front of the rest is one row more behind those so far
+pub both-more : (xs ys ds os : List ℕ) (d o : ℕ) →
+    both ((xs ++ (d ∷ [])) ++ ds) ((ys ++ (o ∷ [])) ++ os) ≡ both (xs ++ (d ∷ ds)) (ys ++ (o ∷ os))
+both-more xs ys ds os d o = rw (append-assoc, append-assoc)
 
 -- the step s got a, and the rest stands after it
 pub record Passed {A : Type 0} (s : Step A) (a : A) (bs rest : List ℕ) : Type 0 where
@@ -34,12 +46,12 @@ pub header-passed : (bs rest : List ℕ) (at : ℕ) (k : Link) (ds : List ℕ) �
     Passed (header bs at) (record { link = k; rows = length ds }) bs rest
 unfolding headerBytes header
 header-passed bs rest at k ds g e =
-    let p = number-passed bs (numberBytes (k .size) ++ (numberBytes (length ds) ++ rest)) at 1 maxPeriod badPeriod (k .period)
-    (e ∙ rw (append-assoc, append-assoc)) (g .period-low) (g .period-high) (omega (arith, g .period-high)) in
-    let s = number-passed bs _ (p .place) 1 (k .period) badSize (k .size) (p .left) (g .span-low) (g .span-high)
-    (omega (arith, g .span-high, g .period-high)) in
-    let n = number-passed bs rest (s .place) 1 maxRows badRows (length ds) (s .left) (g .rows-low) (g .rows-high)
-    (omega (arith, g .rows-high)) in
+    let size-low : k .size ≤ maxDelay = omega (arith, g .span-high, g .period-high) in
+    let here = e ∙ three (numberBytes (k .period)) (numberBytes (k .size)) (numberBytes (length ds)) rest in
+    let p = number-passed bs _ at 1 maxPeriod badPeriod (k .period) here (g .period-low) (g .period-high) (omega (arith, g .period-high)) in
+    let s = number-passed bs _ (p .place) 1 (k .period) badSize (k .size) (p .left) (g .span-low) (g .span-high) size-low in
+    let rows-low = g .rows-high in
+    let n = number-passed bs rest (s .place) 1 maxRows badRows (length ds) (s .left) (g .rows-low) rows-low (omega arith) in
     record { place = n .place; here = rw (p .here, s .here, n .here); left = n .left }
 
 pub row-passed : (bs rest : List ℕ) (p at d o : ℕ) → p ≤ maxPeriod → d ≤ maxDelay → o < p →
@@ -65,12 +77,8 @@ later-rows p d o ds os w =
     record {
       as-many = omega (arith, w .as-many);
       delays = λ i h. w .delays (suc i) (omega arith);
-      offsets = λ i h. w .offsets (suc i)
-          (omega arith);
+      offsets = λ i h. w .offsets (suc i) (omega arith);
     }
-
-abbrev pub both : List ℕ → List ℕ → Rows
-both ds os = record { delays = ds; offsets = os }
 
 pub rows-passed : (bs rest : List ℕ) (p at : ℕ) (xs ys ds os : List ℕ) → p ≤ maxPeriod → InRows p ds os →
     drop at bs ≡ rowsBytes ds os ++ rest →
@@ -80,10 +88,11 @@ rows-passed bs rest p at xs ys [] [] h w e = record { place = at; here = rw (app
 rows-passed bs rest p at xs ys [] (o ∷ os) h w e = absurd (omega (arith, w .as-many))
 rows-passed bs rest p at xs ys (d ∷ ds) [] h w e = absurd (omega (arith, w .as-many))
 rows-passed bs rest p at xs ys (d ∷ ds) (o ∷ os) h w e =
-    let r = row-passed bs (rowsBytes ds os ++ rest) p at d o h (w .delays 0 (omega arith)) (w .offsets 0 (omega arith))
-    (e ∙ rw (append-assoc, append-assoc)) in
+    let here = e ∙ three (numberBytes d) (numberBytes o) (rowsBytes ds os) rest in
+    let r = row-passed bs (rowsBytes ds os ++ rest) p at d o h (w .delays 0 (omega arith)) (w .offsets 0 (omega arith)) here in
     let q = rows-passed bs rest p (r .place) (xs ++ (d ∷ [])) (ys ++ (o ∷ [])) ds os h (later-rows p d o ds os w) (r .left) in
-    record { place = q .place; here = rw (rows, r .here) (q .here ∙ rw (append-assoc, append-assoc)); left = q .left }
+    let values = ap (λ (v : Rows). got v (q .place)) (both-more xs ys ds os d o) in
+    record { place = q .place; here = rw (rows, r .here) (q .here ∙ values); left = q .left }
 
 -- a file that begins with the bytes of a plan is judged where they end
 pub record Reached (bs rest : List ℕ) (k : Link) (ds os : List ℕ) : Type 0 where
@@ -95,7 +104,7 @@ pub reached : (k : Link) (ds os rest : List ℕ) → GoodPlan k ds os → Reache
 unfolding planBytes meaning body begins
 reached k ds os rest g =
     let bs = (tag ++ (headerBytes k (length ds) ++ rowsBytes ds os)) ++ rest in
-    let h = header-passed bs (rowsBytes ds os ++ rest) 4 k ds (g .table)
-    (append-assoc (headerBytes k (length ds)) (rowsBytes ds os) rest) in
+    let here = append-assoc (headerBytes k (length ds)) (rowsBytes ds os) rest in
+    let h = header-passed bs (rowsBytes ds os ++ rest) 4 k ds (g .table) here in
     let r = rows-passed bs rest (k .period) (h .place) [] [] ds os (g .table .period-high) (in-rows k ds os g) (h .left) in
     record { place = r .place; here = rw (h .here, r .here); left = r .left }

@@ -253,28 +253,29 @@ fn refused_writes() {
     );
 }
 
-// The offsets 16384, 16385, .., each of three bytes.
+// The offsets 16384, 16512, .., each of three bytes and 128 slots from the last.
 fn count_up(offsets: &mut [u32])
     requires { ⌜ length (now offsets) ≤ maxRows ⌝ }
 {
     let mut i = 0;
     while i < offsets.len() {
-        offsets[i] = 16384 + i as u32;
+        offsets[i] = 16384 + 128 * i as u32;
         i += 1;
     }
 }
 
-// Sixty-four rows of seven bytes each, written and read back.
+// The longest file of a clear plan, written and read back: sixty-four rows of seven bytes, and a size of two, since a size of three
+// bytes is too large for sixty-four rows.
 fn longest() {
     let mut delays = [16777215u32; 64];
     let mut offsets = [0u32; 64];
     count_up(&mut offsets);
-    let mut buffer = [0u8; 457];
+    let mut buffer = [0u8; 458];
     word(b"64 rows:");
     say_written(planfile::write_plan(
         Link {
             period: 1000000,
-            size: 1,
+            size: 128,
         },
         &delays,
         &offsets,

@@ -19,11 +19,14 @@ loop-holds c = (omega arith, refl)
 cast-offsets : tie.Need-cast-offsets Inv-loop μ-loop
 cast-offsets c = search needs
 
+mul-offsets : tie.Need-mul-offsets Inv-loop μ-loop
+mul-offsets c = search needs
+
 add-offsets : tie.Need-add-offsets Inv-loop μ-loop
 add-offsets c = search needs
 
-mul-offsets : tie.Need-mul-offsets Inv-loop μ-loop
-mul-offsets c = search needs
+mul-offsets-2 : tie.Need-mul-offsets-2 Inv-loop μ-loop
+mul-offsets-2 c = search needs
 
 slice-write-offsets : tie.Need-slice-write-offsets Inv-loop μ-loop
 slice-write-offsets c = search needs
@@ -51,8 +54,9 @@ count-up-spec =
     μ-loop
     loop-holds
     cast-offsets
-    add-offsets
     mul-offsets
+    add-offsets
+    mul-offsets-2
     slice-write-offsets
     add-i
     loop-less
