@@ -7,7 +7,7 @@ ghost use Rattle.console.specs.Printed.{maxDigits, number, numberLine};
 ghost use Rattle.console.specs.Placed.{Adds};
 
 // A fixed byte string.
-pub fn word(out: &mut [u8], at: usize, bytes: &[u8]) -> usize
+pub(crate) fn word(out: &mut [u8], at: usize, bytes: &[u8]) -> usize
     requires { ⌜ at + length (now bytes) ≤ length (now out) ⌝ }
     ensures { λ r. ⌜ Adds (now (out .entry)) at (now (bytes .entry)) r (now (out .exit)) ⌝ }
 {
@@ -19,7 +19,7 @@ pub fn word(out: &mut [u8], at: usize, bytes: &[u8]) -> usize
     at + i
 }
 
-pub struct Spelt {
+pub(crate) struct Spelt {
     pub digits: [u8; 20],
     pub from: usize,
 }
@@ -42,7 +42,7 @@ fn spell(n: u64) -> Spelt
 }
 
 // A number, in decimal.
-pub fn decimal(out: &mut [u8], at: usize, n: u64) -> usize
+pub(crate) fn decimal(out: &mut [u8], at: usize, n: u64) -> usize
     requires { ⌜ at + maxDigits ≤ length (now out) ⌝ }
     ensures { λ r. ⌜ Adds (now (out .entry)) at (number n) r (now (out .exit)) × (r ≤ at + maxDigits) ⌝ }
 {
@@ -53,7 +53,7 @@ pub fn decimal(out: &mut [u8], at: usize, n: u64) -> usize
 }
 
 // A number that ends its line.
-pub fn line(out: &mut [u8], at: usize, n: u64) -> usize
+pub(crate) fn line(out: &mut [u8], at: usize, n: u64) -> usize
     requires { ⌜ at + maxDigits + 1 ≤ length (now out) ⌝ }
     ensures { λ r. ⌜ Adds (now (out .entry)) at (numberLine n) r (now (out .exit)) × (r ≤ at + maxDigits + 1) ⌝ }
 {
@@ -62,7 +62,7 @@ pub fn line(out: &mut [u8], at: usize, n: u64) -> usize
 }
 
 // An offset that ends its line.
-pub fn line_of(out: &mut [u8], at: usize, offset: u32) -> usize
+pub(crate) fn line_of(out: &mut [u8], at: usize, offset: u32) -> usize
     requires { ⌜ at + maxDigits + 1 ≤ length (now out) ⌝ }
     ensures { λ r. ⌜ Adds (now (out .entry)) at (numberLine offset) r (now (out .exit)) × (r ≤ at + maxDigits + 1) ⌝ }
 {

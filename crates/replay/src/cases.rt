@@ -13,7 +13,7 @@ pub struct Listed {
 }
 
 // The number that begins at `at`, and where the next one begins. Digits past 64 bits are lost.
-pub fn number(line: &[u8], at: usize) -> Read {
+pub(crate) fn number(line: &[u8], at: usize) -> Read {
     let mut value: u64 = 0;
     let mut i = at;
     while i < line.len() {
@@ -28,7 +28,7 @@ pub fn number(line: &[u8], at: usize) -> Read {
 }
 
 // A list of numbers, as many as there is room for.
-pub fn list(line: &[u8], at: usize, out: &mut [u32]) -> Listed
+pub(crate) fn list(line: &[u8], at: usize, out: &mut [u32]) -> Listed
     ensures { λ r. ⌜ Counts (r .count) (now (out .exit)) ⌝ }
 {
     let n = number(line, at);
@@ -45,7 +45,7 @@ pub fn list(line: &[u8], at: usize, out: &mut [u32]) -> Listed
 }
 
 // A list of bytes, as many as there is room for.
-pub fn bytes(line: &[u8], at: usize, out: &mut [u8]) -> Listed
+pub(crate) fn bytes(line: &[u8], at: usize, out: &mut [u8]) -> Listed
     ensures { λ r. ⌜ Counts (r .count) (now (out .exit)) ⌝ }
 {
     let n = number(line, at);
@@ -62,7 +62,7 @@ pub fn bytes(line: &[u8], at: usize, out: &mut [u8]) -> Listed
 }
 
 // A lent list, `m f`: m elements, f, f + 1, and so on.
-pub fn lent(line: &[u8], at: usize, out: &mut [u32]) -> Listed
+pub(crate) fn lent(line: &[u8], at: usize, out: &mut [u32]) -> Listed
     ensures { λ r. ⌜ Counts (r .count) (now (out .exit)) ⌝ }
 {
     let m = number(line, at);
@@ -81,7 +81,7 @@ pub fn lent(line: &[u8], at: usize, out: &mut [u32]) -> Listed
 }
 
 // The same of bytes.
-pub fn lent_bytes(line: &[u8], at: usize, out: &mut [u8]) -> Listed
+pub(crate) fn lent_bytes(line: &[u8], at: usize, out: &mut [u8]) -> Listed
     ensures { λ r. ⌜ Counts (r .count) (now (out .exit)) ⌝ }
 {
     let m = number(line, at);
@@ -100,7 +100,7 @@ pub fn lent_bytes(line: &[u8], at: usize, out: &mut [u8]) -> Listed
 }
 
 // A number below 2 ^ 32.
-pub fn word(n: Read) -> u32 {
+pub(crate) fn word(n: Read) -> u32 {
     (n.value % 4294967296) as u32
 }
 

@@ -12,22 +12,22 @@ fn next(x: u64) {
 }
 
 // The numbers of an answer, which begin the line.
-pub fn one(x: u64) {
+pub(crate) fn one(x: u64) {
     first(x);
 }
 
-pub fn two(xs: &[u64; 2]) {
+pub(crate) fn two(xs: &[u64; 2]) {
     first(xs[0]);
     next(xs[1]);
 }
 
-pub fn three(xs: &[u64; 3]) {
+pub(crate) fn three(xs: &[u64; 3]) {
     first(xs[0]);
     next(xs[1]);
     next(xs[2]);
 }
 
-pub fn five(xs: &[u64; 5]) {
+pub(crate) fn five(xs: &[u64; 5]) {
     first(xs[0]);
     next(xs[1]);
     next(xs[2]);
@@ -35,7 +35,7 @@ pub fn five(xs: &[u64; 5]) {
     next(xs[4]);
 }
 
-pub fn eight(xs: &[u64; 8]) {
+pub(crate) fn eight(xs: &[u64; 8]) {
     first(xs[0]);
     next(xs[1]);
     next(xs[2]);
@@ -54,7 +54,7 @@ fn next_byte(x: u8) {
     next(x as u64);
 }
 
-pub fn list(xs: &[u32]) {
+pub(crate) fn list(xs: &[u32]) {
     let mut i: usize = 0;
     while i < xs.len() {
         next_word(xs[i]);
@@ -62,7 +62,7 @@ pub fn list(xs: &[u32]) {
     }
 }
 
-pub fn bytes(xs: &[u8]) {
+pub(crate) fn bytes(xs: &[u8]) {
     let mut i: usize = 0;
     while i < xs.len() {
         next_byte(xs[i]);
@@ -70,6 +70,6 @@ pub fn bytes(xs: &[u8]) {
     }
 }
 
-pub fn end() {
+pub(crate) fn end() {
     io::write_all(STDOUT_FILENO, b"\n");
 }

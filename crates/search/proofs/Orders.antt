@@ -11,7 +11,7 @@ use borrow.Author.Tests.{lt-ltb, le-ltb, eq-eqb, ne-eqb}
 use Rattle.link.specs.Rows.{Crossing, one, two}
 use Rattle.link.proofs.Bools.{clash, lt-or-ge}
 use Rattle.search.specs.Steps.{Step}
-use Rattle.search.specs.Builds.{order, numberOf, orderSteps, earlierStep, earlier}
+use Rattle.search.specs.Builds.{order, orderSteps, earlierStep, earlier}
 
 -- x is before each of a list; each element of a list is before all that follow
 module _ {A : Type 0} (lt : A → A → Bool) where
@@ -65,9 +65,7 @@ way-numbers a b =
 
 way : (k m : Step) → Way (orderSteps k m) (orderSteps m k)
 unfolding orderSteps
-way k m =
-    way-then _ _ _ _ (way-numbers (k .row) (m .row))
-    (way-then _ _ _ _ (way-numbers (k .beside) (m .beside)) (way-numbers (numberOf (k .crossing)) (numberOf (m .crossing))))
+way k m = way-then _ _ _ _ (way-numbers _ _) (way-then _ _ _ _ (way-numbers _ _) (way-numbers _ _))
 
 -- a step that is earlier decides, whatever follows
 pub decides : (k m : Step) → earlierStep k m ≡ true → (t : Bool) → orderSteps k m t ≡ true

@@ -5,7 +5,7 @@ ghost use lib.ListN.{length};
 ghost use Rattle.text.specs.Bytes.{seek as seekOf, same as sameOf, begins as beginsOf};
 
 // The place of the first such byte, or the length.
-pub fn seek(bytes: &[u8], byte: u8) -> usize
+pub(crate) fn seek(bytes: &[u8], byte: u8) -> usize
     ensures { λ r. ⌜ (r ≡ seekOf byte (now (bytes .entry))) × (r ≤ length (now (bytes .entry))) ⌝ }
 {
     let mut i = 0;
@@ -19,7 +19,7 @@ pub fn seek(bytes: &[u8], byte: u8) -> usize
 }
 
 // The same bytes.
-pub fn same(a: &[u8], b: &[u8]) -> bool
+pub(crate) fn same(a: &[u8], b: &[u8]) -> bool
     ensures { λ r. ⌜ r ≡ sameOf (now (a .entry)) (now (b .entry)) ⌝ }
 {
     if a.len() != b.len() {
@@ -36,7 +36,7 @@ pub fn same(a: &[u8], b: &[u8]) -> bool
 }
 
 // The word stands in front.
-pub fn begins(word: &[u8], bytes: &[u8]) -> bool
+pub(crate) fn begins(word: &[u8], bytes: &[u8]) -> bool
     ensures { λ r. ⌜ r ≡ beginsOf (now (word .entry)) (now (bytes .entry)) ⌝ }
 {
     let n = word.len();

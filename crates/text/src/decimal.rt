@@ -39,7 +39,7 @@ fn leading_zero(bytes: &[u8]) -> bool
     bytes[0] == b'0'
 }
 
-pub fn is_decimal(bytes: &[u8]) -> bool
+pub(crate) fn is_decimal(bytes: &[u8]) -> bool
     ensures { λ r. ⌜ r ≡ isDecimal (now (bytes .entry)) ⌝ }
 {
     if bytes.len() < 1 {
@@ -54,7 +54,7 @@ pub fn is_decimal(bytes: &[u8]) -> bool
     all_digits(bytes)
 }
 
-pub fn value(digits: &[u8]) -> u32
+pub(crate) fn value(digits: &[u8]) -> u32
     requires { ⌜ isDecimal (now digits) ≡ true ⌝ }
     ensures { λ r. ⌜ r ≡ valueOf (now (digits .entry)) ⌝ }
 {

@@ -50,7 +50,7 @@ fn is_pair(line: &[u8]) -> bool
 }
 
 // The period and the size of line two.
-pub fn link_of(line: &[u8]) -> Link
+pub(crate) fn link_of(line: &[u8]) -> Link
     requires { ⌜ isPair (now line) ≡ true ⌝ }
     ensures { λ r. ⌜ r ≡ linkOf (now (line .entry)) ⌝ }
 {
@@ -78,7 +78,7 @@ fn pair(line: &[u8], at: usize) -> Judged
 }
 
 // A line that begins with `end` and a space is the last one.
-pub fn is_last(line: &[u8]) -> bool
+pub(crate) fn is_last(line: &[u8]) -> bool
     ensures { λ r. ⌜ r ≡ isLast (now (line .entry)) ⌝ }
 {
     bytes::begins(b"end ", line)
@@ -137,7 +137,7 @@ fn last(line: &[u8], at: usize, rows: usize) -> Judged
 }
 
 // Line k, from 0.
-pub fn own(line: &[u8], at: usize, k: usize) -> Judged
+pub(crate) fn own(line: &[u8], at: usize, k: usize) -> Judged
     ensures { λ r. ⌜ r ≡ first (ownFaults k (now (line .entry)) at) ⌝ }
 {
     if k == 0 {
