@@ -5,11 +5,9 @@ use link::limits::MAX_EXACT_ROWS;
 use link::limits::MAX_ROWS;
 ghost use mathlib.Core.Path.{_≡_};
 ghost use mathlib.Core.Bool.{true};
-ghost use mathlib.Core.List.{_++_};
 ghost use Prim.Native.Nat.{ℕ, _<_, _≤_, _*_, _%_};
-ghost use lib.ListN.{length, getD, drop};
-ghost use Rattle.link.specs.Limits.{maxPeriod, maxRows};
-ghost use Rattle.link.specs.Rows.{second};
+ghost use lib.ListN.{length, getD};
+ghost use Rattle.link.specs.Limits.{maxRows};
 ghost use Rattle.link.specs.Range.{GoodTable};
 ghost use Rattle.search.specs.Steps.{puts, isStep};
 ghost use Rattle.search.specs.Ceilings.{ceilingUpTo};
@@ -85,7 +83,7 @@ fn plan(link: Link, delays: &[u32], budget: u64, offsets: &mut [u32]) -> Answer
         budget,
     ) {
         Hunt::Found(left) => {
-            copy_out(&firsts[..rows], offsets);
+            link::copy_out(&firsts[..rows], offsets);
             Answer::Plan {
                 tests: budget - left,
             }
@@ -109,18 +107,6 @@ fn reduced(p: u32, delays: &[u32]) -> Rows
         i += 1;
     }
     turns
-}
-
-// a + b, round the period.
-fn turn(p: u32, a: u32, b: u32) -> u32
-    requires { ⌜ (p ≤ maxPeriod) × (a < p) × (b ≤ p) ⌝ }
-    ensures { λ r. ⌜ (r ≡ second p b a) × (r < p) ⌝ }
-{
-    let s = a + b;
-    if s < p {
-        return s;
-    }
-    s - p
 }
 
 // Whether a row with the starts x and y is placed and meets a row with the starts a and b.
@@ -192,9 +178,9 @@ fn offset(
 {
     let i = k / 2 % MAX_ROWS;
     if k % 2 == 0 {
-        return turn(p, firsts[i], l);
+        return link::turn(p, firsts[i], l);
     }
-    turn(p, turn(p, seconds[i], l), p - delays[k / ROW])
+    link::turn(p, link::turn(p, seconds[i], l), p - delays[k / ROW])
 }
 
 // Tries the step k, which is one test: where it is good, the rows that are then left are placed.
@@ -217,7 +203,7 @@ fn try_step(
     let rest = left - 1;
     let j = k / ROW;
     let a = offset(p, l, delays, firsts, seconds, rows, k);
-    let b = turn(p, a, delays[j]);
+    let b = link::turn(p, a, delays[j]);
     if !is_free(p, l, firsts, seconds, rows, a, b) {
         return Hunt::Nothing(rest);
     }
@@ -278,16 +264,4 @@ fn descend(
         }
     }
     Hunt::Nothing(left)
-}
-
-// The front of `to` is replaced by `from`.
-fn copy_out(from: &[u32], to: &mut [u32])
-    requires { ⌜ length (now from) ≤ length (now to) ⌝ }
-    ensures { λ _. ⌜ now (to .exit) ≡ now (from .entry) ++ drop (length (now (from .entry))) (now (to .entry)) ⌝ }
-{
-    let mut i = 0;
-    while i < from.len() {
-        to[i] = from[i];
-        i += 1;
-    }
 }

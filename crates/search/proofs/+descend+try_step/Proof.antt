@@ -20,7 +20,7 @@ use Rattle.search.proofs.+descend+try_step.Lts-try_step as try-step-lts
 use Rattle.search.proofs.is_free.Reads as is-free-reads
 use Rattle.search.proofs.next_step.Reads as next-step-reads
 use Rattle.search.proofs.offset.Reads as offset-reads
-use Rattle.search.proofs.turn.Reads as turn-reads
+use Rattle.link.proofs.turn.Reads as turn-reads
 use Rattle.search.proofs.+descend+try_step.{statement}
 use Rattle.search.proofs.+descend+try_step.Tie.{close}
 
