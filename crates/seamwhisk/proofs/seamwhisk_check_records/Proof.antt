@@ -137,7 +137,8 @@ module _ {M : Type 1} (𝓤 : URA M) (H : Heap 𝓤) (A : Atoms 𝓤) (W : Given
   abbrev to-fill : Checked → Val → Fill 𝓤 H A mem run .Ghost
   to-fill c w = (((κ′, tt), (q′, tt), tt, (y, (c, tt)), (ptr-vals y, (w ∷ [], tt))), tt)
 
-  goes-fill : (c : Checked) (w : Val) → Is Ch.the-row c (w ∷ []) → ent 𝓤 (⋆ 𝓤 H A (‵ (flft κ′ q′) ∷ ‵ Lent ∷ [])) (Fill 𝓤 H A mem run .pre (to-fill c w))
+  goes-fill : (c : Checked) (w : Val) → Is Ch.the-row c (w ∷ [])
+      → ent 𝓤 (⋆ 𝓤 H A (‵ (flft κ′ q′) ∷ ‵ Lent ∷ [])) (Fill 𝓤 H A mem run .pre (to-fill c w))
   goes-fill c w is =
       qed W (‵ (flft κ′ q′) ∷ ‵ Lent ∷ []) ∵ nothing ! $
       owned ! Ch.the-row (Is Ch.the-row) (EL.makes Ch.the-type Ch′.the-plain 𝓤 H A) c _ is $ fjoin ! $ move ! (2 ∷ 0 ∷ []) $ fjoin ! $
@@ -234,7 +235,10 @@ module _ {M : Type 1} (𝓤 : URA M) (H : Heap 𝓤) (A : Atoms 𝓤) (W : Given
         goes-none 𝓤 H A W 2 (λ _. u32) yes (λ κs x f. refl),
         (
           goes-none 𝓤 H A W 2 (λ _. u32) yes (λ κs x f. refl),
-          (goes-none-slice 𝓤 H A W 2 (0 ∷ []) tt (plain (λ _. R.the-row)) yes, (goes-gave-ref 𝓤 H A W 2 1 tt (arrayOf (plain (λ _. u64)) 5), tt)),
+          (
+            goes-none-slice 𝓤 H A W 2 (0 ∷ []) tt (plain (λ _. R.the-row)) yes,
+            (goes-gave-ref 𝓤 H A W 2 1 tt (arrayOf (plain (λ _. u64)) 5), tt),
+          ),
         ),
       )
       (f.clauses 𝓤 H A mem run) (WpFn 𝓤 H (𝓣 .C) (𝓣 .Λ) code.function) (WpFn-mono 𝓤 H (W .laws) 𝓣 code.function) walks
