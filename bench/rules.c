@@ -125,6 +125,18 @@ void rules_check(uint32_t period, uint32_t size, const uint32_t *delays, size_t 
         *answer = find_collision(period, size, delays, rows, offsets);
 }
 
+/* Above 64 rows no record has to be read: rules_check refuses before it looks at a list. */
+void rules_check_records(uint32_t period, uint32_t size, const seamwhisk_record *records,
+                         size_t rows, seamwhisk_checked *answer)
+{
+    uint32_t delays[MAX_ROWS], offsets[MAX_ROWS];
+    for (size_t row = 0; rows <= MAX_ROWS && row < rows; row++) {
+        delays[row] = records[row].delay;
+        offsets[row] = records[row].offset;
+    }
+    rules_check(period, size, delays, rows, offsets, rows, answer);
+}
+
 /* ---- quick planners ---- */
 
 /* Rows already placed: their starts in both crossings. */

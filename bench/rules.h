@@ -1,4 +1,4 @@
-/* The C baseline: the nine functions of seamwhisk.h, written by the same rules in plain C. Each has
+/* The C baseline: the functions of seamwhisk.h, written by the same rules in plain C. Each has
  * the contract that seamwhisk.h gives the function of the same name; the types are those there. */
 #ifndef RULES_H
 #define RULES_H
@@ -7,6 +7,9 @@
 
 void rules_check(uint32_t period, uint32_t size, const uint32_t *delays, size_t rows,
                  const uint32_t *offsets, size_t count, seamwhisk_checked *answer);
+
+void rules_check_records(uint32_t period, uint32_t size, const seamwhisk_record *records,
+                         size_t rows, seamwhisk_checked *answer);
 
 void rules_first_fit(uint32_t period, uint32_t size, const uint32_t *delays, size_t rows,
                      uint32_t *offsets, size_t room, seamwhisk_planned *answer);

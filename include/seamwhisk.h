@@ -63,6 +63,12 @@ enum seamwhisk_refusal {
                                     collision that the checker names] */
 };
 
+/* A row with its offset. */
+typedef struct seamwhisk_record {
+    uint32_t delay;
+    uint32_t offset;
+} seamwhisk_record;
+
 /* The answer of the checker. */
 typedef struct seamwhisk_checked {
     uint64_t number;
@@ -121,6 +127,12 @@ typedef struct seamwhisk_reported {
  * then crossing 1 before 2. */
 void seamwhisk_check(uint32_t period, uint32_t size, const uint32_t *delays, size_t rows,
                      const uint32_t *offsets, size_t count, seamwhisk_checked *answer);
+
+/* The checker over a list of records, a delay and an offset in each.
+ * Judges 5, 6, 8, 7 (least row), 17 (least row): all delays before any offset.
+ * The answer is that of seamwhisk_check on the list of the delays and the list of the offsets. */
+void seamwhisk_check_records(uint32_t period, uint32_t size, const seamwhisk_record *records,
+                             size_t rows, seamwhisk_checked *answer);
 
 /* First Fit: takes the rows in order and gives each the least offset from 0 to P-1 at which it
  * meets no earlier row in either crossing.

@@ -1,5 +1,5 @@
 /* Reads the oracle's cases on standard input, calls the C functions on them and prints the answers
- * in the oracle's format, one line a case. Kinds 10 and 11 have no C function: their line is `-`.
+ * in the oracle's format, one line a case. Kind 11 has no C function: its line is `-`.
  * It also sees that nothing is written behind the answer or behind a lent buffer.
  * With -DBASELINE it calls the C baseline instead. */
 #include <inttypes.h>
@@ -28,6 +28,9 @@ HAS(seamwhisk_searched, 3);
 HAS(seamwhisk_read, 5);
 HAS(seamwhisk_written, 3);
 HAS(seamwhisk_reported, 8);
+
+/* A record has two numbers of 32 bits. */
+HAS(seamwhisk_record, 1);
 
 /* Lists have `length` elements. A lent one has `first`, first + 1, .. from start to end of `at`. */
 struct numbers {
@@ -249,6 +252,21 @@ static void ceiling(void)
     printf("%" PRIu64, CALL(ceiling)((size_t)number(SIZE_MAX)));
 }
 
+static void check_records(void)
+{
+    uint32_t period = (uint32_t)number(UINT32_MAX);
+    uint32_t size = (uint32_t)number(UINT32_MAX);
+    size_t rows = (size_t)number(MOST_NUMBERS);
+    seamwhisk_record records[MOST_NUMBERS];
+    for (size_t k = 0; k < rows; k++) {
+        records[k].delay = (uint32_t)number(UINT32_MAX);
+        records[k].offset = (uint32_t)number(UINT32_MAX);
+    }
+    union answer answer = fresh;
+    CALL(check_records)(period, size, records, rows, &answer.checked);
+    print_answer(&answer, 5);
+}
+
 /* A kind that has no C function. */
 static void none(void)
 {
@@ -259,8 +277,9 @@ static void none(void)
 
 int main(void)
 {
-    static void (*const kinds[])(void) = {check,     first_fit, meta_offset, exact,   read_table,
-                                          write_plan, read_plan, report,     ceiling, none, none};
+    static void (*const kinds[])(void) = {check,      first_fit,  meta_offset, exact,
+                                          read_table, write_plan, read_plan,   report,
+                                          ceiling,    check_records, none};
     static char line[LINE_ROOM];
     for (unsigned long count = 1; fgets(line, sizeof line, stdin) != NULL; count++) {
         char *end = line;

@@ -9,6 +9,7 @@ ghost use Rattle.checker.specs.Answer.{said, answer};
 ghost use Rattle.records.specs.Columns.{delaysOf, offsetsOf};
 ghost use Rattle.records.specs.Lists.{room, toRead, stored};
 
+#[repr(C)]
 pub struct Record {
     pub delay: u32,
     pub offset: u32,

@@ -3,7 +3,7 @@ ghost use mathlib.Core.Path.{_≡_};
 ghost use mathlib.Core.List.{[], _∷_};
 ghost use lib.ListN.{length};
 
-pub fn two(answer: &mut [u64], a: u64, b: u64)
+pub(crate) fn two(answer: &mut [u64], a: u64, b: u64)
     requires { ⌜ length (now answer) ≡ 2 ⌝ }
     ensures { λ _. ⌜ now (answer .exit) ≡ (a ∷ b ∷ []) ⌝ }
 {
@@ -11,7 +11,7 @@ pub fn two(answer: &mut [u64], a: u64, b: u64)
     answer[1] = b;
 }
 
-pub fn three(answer: &mut [u64], a: u64, b: u64, c: u64)
+pub(crate) fn three(answer: &mut [u64], a: u64, b: u64, c: u64)
     requires { ⌜ length (now answer) ≡ 3 ⌝ }
     ensures { λ _. ⌜ now (answer .exit) ≡ (a ∷ b ∷ c ∷ []) ⌝ }
 {
@@ -20,7 +20,7 @@ pub fn three(answer: &mut [u64], a: u64, b: u64, c: u64)
     answer[2] = c;
 }
 
-pub fn five(answer: &mut [u64], a: u64, b: u64, c: u64, d: u64, e: u64)
+pub(crate) fn five(answer: &mut [u64], a: u64, b: u64, c: u64, d: u64, e: u64)
     requires { ⌜ length (now answer) ≡ 5 ⌝ }
     ensures { λ _. ⌜ now (answer .exit) ≡ (a ∷ b ∷ c ∷ d ∷ e ∷ []) ⌝ }
 {
@@ -31,7 +31,17 @@ pub fn five(answer: &mut [u64], a: u64, b: u64, c: u64, d: u64, e: u64)
     answer[4] = e;
 }
 
-pub fn eight(answer: &mut [u64], a: u64, b: u64, c: u64, d: u64, e: u64, f: u64, g: u64, h: u64)
+pub(crate) fn eight(
+    answer: &mut [u64],
+    a: u64,
+    b: u64,
+    c: u64,
+    d: u64,
+    e: u64,
+    f: u64,
+    g: u64,
+    h: u64,
+)
     requires { ⌜ length (now answer) ≡ 8 ⌝ }
     ensures { λ _. ⌜ now (answer .exit) ≡ (a ∷ b ∷ c ∷ d ∷ e ∷ f ∷ g ∷ h ∷ []) ⌝ }
 {

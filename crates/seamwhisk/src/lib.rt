@@ -8,18 +8,37 @@ use link::limits::NO_BUILD;
 use planfile::PlanRead;
 use planfile::PlanWritten;
 use quick::Planned;
+use records::Record;
 use report::Reported;
 use search::Answer;
 use text::Read;
 ghost use mathlib.Core.Path.{_≡_};
-ghost use Rattle.checker.specs.Answer.{answer as Answer·checked};
+ghost use Rattle.checker.specs.Answer.{said, answer as Answer·checked};
 ghost use Rattle.quick.specs.Answer.{firstFit, metaOffset};
 ghost use Rattle.planfile.specs.Answer.{readGives, writeGives};
+ghost use Rattle.records.specs.Columns.{delaysOf, offsetsOf};
 ghost use Rattle.report.specs.Answer.{answer as Answer·reported};
 ghost use Rattle.search.specs.Answer.{exactly};
 ghost use Rattle.search.specs.Ceilings.{ceilingUpTo};
 ghost use Rattle.text.specs.Reading.{reading};
 ghost use Rattle.seamwhisk.specs.Numbers.{linkOf, left, leftTwo, checkedAs, plannedAs, searchedAs, readAs, writtenAs, fileAs, reportedAs};
+
+// The checker's answer, as its numbers.
+fn checked(answer: &mut [u64; 5], r: Checked)
+    ensures { λ _. ⌜ now (answer .exit) ≡ checkedAs (said r) ⌝ }
+{
+    match r {
+        Checked::Clear => fill::five(answer, 0, 0, 0, 0, 0),
+        Checked::Collision {
+            earlier,
+            later,
+            crossing,
+        } => fill::five(answer, 0, 0, earlier as u64, later as u64, crossing as u64),
+        Checked::Refused { number, place } => {
+            fill::five(answer, number as u64, place as u64, 0, 0, 0)
+        }
+    }
+}
 
 #[no_mangle]
 pub extern "C" fn seamwhisk_check(
@@ -31,17 +50,24 @@ pub extern "C" fn seamwhisk_check(
 )
     ensures { λ _. ⌜ now (answer .exit) ≡ checkedAs (Answer·checked (linkOf period size) (now (delays .entry)) (now (offsets .entry))) ⌝ }
 {
-    match checker::check(Link { period, size }, delays, offsets) {
-        Checked::Clear => fill::five(answer, 0, 0, 0, 0, 0),
-        Checked::Collision {
-            earlier,
-            later,
-            crossing,
-        } => fill::five(answer, 0, 0, earlier as u64, later as u64, crossing as u64),
-        Checked::Refused { number, place } => {
-            fill::five(answer, number as u64, place as u64, 0, 0, 0)
-        }
-    }
+    checked(
+        answer,
+        checker::check(Link { period, size }, delays, offsets),
+    )
+}
+
+// The checker over a list of records.
+#[no_mangle]
+pub extern "C" fn seamwhisk_check_records(
+    period: u32,
+    size: u32,
+    records: &[Record],
+    answer: &mut [u64; 5],
+)
+    ensures { λ _. ⌜ now (answer .exit) ≡ checkedAs (Answer·checked (linkOf period size) (delaysOf (now (records .entry))) (offsetsOf (now (records .entry)))) ⌝ }
+{
+    let r = records::check_records(Link { period, size }, records);
+    checked(answer, r)
 }
 
 #[no_mangle]
