@@ -24,7 +24,8 @@ use Rattle.checker.proofs.Naming.{met-blocked}
 -- the two things that the walk over the rows can name
 pub data Naming (p l : ℕ) (ds os : List ℕ) : Said → Type 0 where
   nobody : ((j : ℕ) → j < length ds → blocked p l ds os j ≡ false) → Naming p l ds os clearly
-  earliest : (i j c : ℕ) → j < length ds → ((m : ℕ) → m < j → blocked p l ds os m ≡ false) → metBy p l ds os j ≡ Row i c → Naming p l ds os (colliding i j c)
+  earliest : (i j c : ℕ) → j < length ds → ((m : ℕ) → m < j → blocked p l ds os m ≡ false) → metBy p l ds os j ≡ Row i c
+      → Naming p l ds os (colliding i j c)
 
 pub naming : (p l : ℕ) (ds os : List ℕ) → Naming p l ds os (named p l ds os)
 unfolding named
@@ -54,7 +55,8 @@ isCollision collision = true
 isCollision refusal = false
 
 module _ (p l : ℕ) (ds os : List ℕ) where
-  pub clear-told : (f : Judged) (s : Said) → Naming p l ds os s → clearly ≡ unless f s → (f ≡ Fine) × ((j : ℕ) → j < length ds → blocked p l ds os j ≡ false)
+  pub clear-told : (f : Judged) (s : Said) → Naming p l ds os s → clearly ≡ unless f s
+      → (f ≡ Fine) × ((j : ℕ) → j < length ds → blocked p l ds os j ≡ false)
   clear-told Fine s (nobody b) e = (refl, b)
   clear-told Fine s (earliest i j c h b m) e = clash {x = false} (sym (ap (λ (x : Said). isClear (x .verdict)) e)) refl
   clear-told (Fault n q) s w e = clash {x = false} (sym (ap (λ (x : Said). isClear (x .verdict)) e)) refl

@@ -28,7 +28,8 @@ module _ (p l : ℕ) (ds os : List ℕ) where
   hit : (j i c : ℕ) → metBy p l ds os j ≡ Row i c → blocked p l ds os j ≡ true
   hit j i c e = sym (met-blocked j) ∙ ap (λ (m : Met). not (isNobody m)) e
 
-  named-at : (j i c : ℕ) → j < length ds → ((m : ℕ) → m < j → blocked p l ds os m ≡ false) → metBy p l ds os j ≡ Row i c → colliding i j c ≡ named p l ds os
+  named-at : (j i c : ℕ) → j < length ds → ((m : ℕ) → m < j → blocked p l ds os m ≡ false) → metBy p l ds os j ≡ Row i c
+      → colliding i j c ≡ named p l ds os
   unfolding named
   named-at j i c lt b e =
       let at : least (blocked p l ds os) (length ds) ≡ j = least-at _ _ j (omega arith) b (λ _. hit j i c e) in

@@ -22,14 +22,16 @@ delays = 0 ∷ 3 ∷ 7 ∷ []
 
 -- "First table, offsets 0 2 4: collision of rows 0 and 2 in crossing 2."
 pub collides : said (Collision 0 2 2) ≡ answer link delays (0 ∷ 2 ∷ 4 ∷ [])
-unfolding said answer first outside andThen linkFaults rowFaults offsetFaults named blocked free metBy metAt firstHit either hits start second meets uses least oneMore
+unfolding said answer first outside andThen linkFaults rowFaults offsetFaults named blocked free metBy metAt firstHit either hits start
+    second meets uses least oneMore
 collides = refl
 
 pub first-named : FirstCollision 10 2 delays (0 ∷ 2 ∷ 4 ∷ []) 0 2 2
 first-named = collision-is-first link delays (0 ∷ 2 ∷ 4 ∷ []) (Collision 0 2 2) collides 0 2 2 refl .1
 
 pub clears : said Clearly ≡ answer link delays (0 ∷ 2 ∷ 5 ∷ [])
-unfolding said answer first outside andThen linkFaults rowFaults offsetFaults named blocked free metBy metAt firstHit either hits start second meets uses least oneMore
+unfolding said answer first outside andThen linkFaults rowFaults offsetFaults named blocked free metBy metAt firstHit either hits start
+    second meets uses least oneMore
 clears = refl
 
 pub no-two-meet : GoodPlan link delays (0 ∷ 2 ∷ 5 ∷ []) × Clear 10 2 delays (0 ∷ 2 ∷ 5 ∷ [])

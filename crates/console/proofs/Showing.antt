@@ -36,7 +36,8 @@ isPlan refusal = false
 
 module _ (k : Link) (ds : List ℕ) (budget : ℕ) (r : Answer) (new : List ℕ) (a : Answers k ds budget blank r new) where
   -- the planner's answer s, shown
-  pub planned-as : (s : Answer) → r ≡ s → budget ≡ ceilingUpTo (length ds) → shown (gives (said s) new) (length ds) ≡ planned k ds (length ds)
+  pub planned-as : (s : Answer) → r ≡ s → budget ≡ ceilingUpTo (length ds)
+      → shown (gives (said s) new) (length ds) ≡ planned k ds (length ds)
   unfolding planned
   planned-as s e b =
       as-shown (exactly k ds (ceilingUpTo (length ds)) blank) (said s) new (length ds) (sym (ap said e) ∙ rw b at (a .told)) (rw b at (a .left))
@@ -46,7 +47,8 @@ module _ (k : Link) (ds : List ℕ) (budget : ℕ) (r : Answer) (new : List ℕ)
   unfolding exactly said
   plan-few t e = go (first (exactFaults k ds (length blank))) refl (sym (ap said e) ∙ a .told)
     where
-      go : (f : Judged) → first (exactFaults k ds (length blank)) ≡ f → said (Plan t) ≡ judged f (outcome budget (length ds) blank (builds.planned k ds)) blank .says → length ds ≤ maxExactRows
+      go : (f : Judged) → first (exactFaults k ds (length blank)) ≡ f
+          → said (Plan t) ≡ judged f (outcome budget (length ds) blank (builds.planned k ds)) blank .says → length ds ≤ maxExactRows
       go Fine f g = good-exact k ds (length blank) f .2
       go (Fault n q) f g = clash {x = false} (sym (ap (λ (z : Said). isPlan (z .verdict)) g)) refl
 
@@ -54,7 +56,8 @@ abbrev isTable : reading.Verdict → Bool
 isTable reading.table = true
 isTable reading.refusal = false
 
-as-printed : (o : reading.Outcome) (s : reading.Said) (new : List ℕ) → s ≡ o .says → new ≡ o .leaves → printedAs (s .verdict) (reading.gives s new) ≡ printedAs (o .says .verdict) o
+as-printed : (o : reading.Outcome) (s : reading.Said) (new : List ℕ) → s ≡ o .says → new ≡ o .leaves
+    → printedAs (s .verdict) (reading.gives s new) ≡ printedAs (o .says .verdict) o
 as-printed o s new e f = rw (e, f)
 
 module _ (x : List ℕ) (r : Read) (new : List ℕ) (e : reading.said r ≡ reading.reading x blank .says) (f : new ≡ reading.reading x blank .leaves) where
@@ -67,7 +70,8 @@ module _ (x : List ℕ) (r : Read) (new : List ℕ) (e : reading.said r ≡ read
   unfolding reading.reading reading.accepted reading.said readFaults lateFaults
   rows-few p t n g = go (first (readFaults x (length blank))) refl (sym (ap reading.said g) ∙ e)
     where
-      go : (j : Judged) → first (readFaults x (length blank)) ≡ j → reading.said (Table p t n) ≡ reading.unless j blank (reading.accepted x blank) .says → n ≤ length blank
+      go : (j : Judged) → first (readFaults x (length blank)) ≡ j
+          → reading.said (Table p t n) ≡ reading.unless j blank (reading.accepted x blank) .says → n ≤ length blank
       go (Fault m q) h i = clash {x = false} (sym (ap (λ (z : reading.Said). isTable (z .verdict)) i)) refl
       go Fine h i =
           let text = passed (ltb maxText (length x)) longText 0 _ h .1 in

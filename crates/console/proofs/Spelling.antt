@@ -66,7 +66,8 @@ unfolding digitsIn
 digits-short zero n = omega arith
 digits-short (suc k) n = go (ltb n 10) (digits-short k (n / 10))
   where
-    go : (b : Bool) → length (digitsIn k (n / 10)) ≤ k → length (cond b ((48 + n) ∷ []) (digitsIn k (n / 10) ++ ((48 + n % 10) ∷ []))) ≤ suc k
+    go : (b : Bool) → length (digitsIn k (n / 10)) ≤ k
+        → length (cond b ((48 + n) ∷ []) (digitsIn k (n / 10) ++ ((48 + n % 10) ∷ []))) ≤ suc k
     go true h = omega arith
     go false h = rw (length-append (digitsIn k (n / 10)) ((48 + n % 10) ∷ [])) (omega arith)
 

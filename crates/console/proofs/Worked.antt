@@ -26,5 +26,9 @@ damaged =
 
 -- `refused 9 16`
 pub refuses : printed damaged ≡ refusedLine 9 16
-unfolding printed reading.reading reading.accepted reading.delaysOf faults.readFaults faults.lateFaults faults.textFaults faults.linesFaults faults.lineFaults faults.ownFaults faults.titleFaults faults.pairFaults faults.rowFaults faults.lastFaults faults.placedAt faults.firstPart faults.secondPart faults.isPair faults.linkOf faults.isLast faults.countPart faults.rowsOf faults.endOf lines.nextLine lines.begin lines.lineFrom lines.endedFrom bytes.seek bytes.same bytes.begins decimal.isOther decimal.allDigits decimal.leadingZero decimal.isDecimal decimal.valueFrom first outside andThen linkFaults least oneMore refusedLine
+unfolding printed reading.reading reading.accepted reading.delaysOf faults.readFaults faults.lateFaults faults.textFaults
+    faults.linesFaults faults.lineFaults faults.ownFaults faults.titleFaults faults.pairFaults faults.rowFaults faults.lastFaults
+    faults.placedAt faults.firstPart faults.secondPart faults.isPair faults.linkOf faults.isLast faults.countPart faults.rowsOf
+    faults.endOf lines.nextLine lines.begin lines.lineFrom lines.endedFrom bytes.seek bytes.same bytes.begins decimal.isOther
+    decimal.allDigits decimal.leadingZero decimal.isDecimal decimal.valueFrom first outside andThen linkFaults least oneMore refusedLine
 refuses = refl

@@ -7,8 +7,10 @@ use lib.Dec.{ltb, leb, eqb}
 use lib.ListN.{length, getD}
 use borrow.Author.Tests.{ltb-true, ltb-false, leb-false, eqb-true, not-false, le-ltb, lt-leb, eq-eqb}
 use Rattle.link.specs.Least.{least, some}
-use Rattle.link.specs.Limits.{maxPeriod, maxDelay, maxRows, maxExactRows, badPeriod, badSize, badDelay, badRows, badLength, tooManyRows, badOffset, noOffset}
-use Rattle.link.specs.Refusal.{first, outside, andThen, linkFaults, rowFaults, tableFaults, offsetFaults, planFaults, roomFaults, plannerFaults, exactFaults}
+use Rattle.link.specs.Limits.{maxPeriod, maxDelay, maxRows, maxExactRows, badPeriod, badSize, badDelay, badRows, badLength}
+use Rattle.link.specs.Limits.{tooManyRows, badOffset, noOffset}
+use Rattle.link.specs.Refusal.{first, outside, andThen, linkFaults, rowFaults, tableFaults, offsetFaults, planFaults, roomFaults}
+use Rattle.link.specs.Refusal.{plannerFaults, exactFaults}
 use Rattle.link.specs.Range.{GoodTable, GoodPlan, InRange}
 use Rattle.link.specs.Rows.{spanOf}
 use Rattle.link.specs.declared.Link.{Link}

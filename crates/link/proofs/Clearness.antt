@@ -33,6 +33,7 @@ module _ (p l : ℕ) (ds os : List ℕ) where
       at x i d = is-false _ (λ e. c .apart x i j d m (meets-slot _ _ _ _ e))
 
 -- whether an offset is free goes by the rows before
-pub free-cong : (p l : ℕ) (ds os ps : List ℕ) (n d a : ℕ) → ((i : ℕ) → i < n → getD os i 0 ≡ getD ps i 0) → free p l ds os n d a ≡ free p l ds ps n d a
+pub free-cong : (p l : ℕ) (ds os ps : List ℕ) (n d a : ℕ) → ((i : ℕ) → i < n → getD os i 0 ≡ getD ps i 0)
+    → free p l ds os n d a ≡ free p l ds ps n d a
 unfolding free hits either start
 free-cong p l ds os ps n d a h = ap (λ (x : ℕ). not (ltb x n)) (least-cong _ _ n (λ i q. rw (h i q)))

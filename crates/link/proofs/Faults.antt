@@ -29,7 +29,8 @@ pub hit-row : (cs : List Cause) (q : ℕ → Bool) (n number k : ℕ) → k ≡ 
 unfolding first
 hit-row cs q n number k e h = rw (← e, lt-ltb k n h)
 
-pub pass-row : (cs : List Cause) {r : Judged} (q : ℕ → Bool) (n number k : ℕ) → k ≡ least q n → n ≤ k → r ≡ first cs → r ≡ first (atRow q n number ∷ cs)
+pub pass-row : (cs : List Cause) {r : Judged} (q : ℕ → Bool) (n number k : ℕ) → k ≡ least q n → n ≤ k → r ≡ first cs
+    → r ≡ first (atRow q n number ∷ cs)
 unfolding first
 pass-row cs q n number k e h f = rw (← e, le-ltb k n h) f
 
@@ -68,7 +69,8 @@ unfolding first
 first-append [] ys = refl
 first-append (x ∷ xs) ys = go (x .applies) (first-append xs ys)
   where
-    go : (b : Bool) → first (xs ++ ys) ≡ orElse (first xs) (first ys) → cond b (Fault (x .number) (x .place)) (first (xs ++ ys)) ≡ orElse (cond b (Fault (x .number) (x .place)) (first xs)) (first ys)
+    go : (b : Bool) → first (xs ++ ys) ≡ orElse (first xs) (first ys)
+        → cond b (Fault (x .number) (x .place)) (first (xs ++ ys)) ≡ orElse (cond b (Fault (x .number) (x .place)) (first xs)) (first ys)
     go true e = refl
     go false e = e
 

@@ -9,7 +9,8 @@ use lib.ListN.{length, getD, take}
 use lib.Seq.{length-take-le, getD-take}
 use borrow.Author.Tests.{ltb-true}
 use Rattle.link.specs.Least.{least, some}
-use Rattle.link.specs.Rows.{Crossing, one, two, numbered, second, startAt, start, hits, either, free, firstHit, metAt, near, firstNear, isNobody}
+use Rattle.link.specs.Rows.{Crossing, one, two, numbered, second, startAt, start, hits, either, free, firstHit, metAt, near}
+use Rattle.link.specs.Rows.{firstNear, isNobody}
 use Rattle.link.specs.declared.Met.{Met}
 use Rattle.link.specs.declared.Met.the-variants.{Nobody, Row}
 use Rattle.link.proofs.Bools.{clash}
@@ -52,7 +53,8 @@ first-hit-cong h g n f = go (some (either g) n) refl
     at : least (either h) n ≡ least (either g) n
     at = least-cong (either h) (either g) n (λ i l. rw (f one i l, f two i l))
 
-    go : (b : Bool) → some (either g) n ≡ b → firstHit h n ≡ cond b (Row (least (either g) n) (cond (g one (least (either g) n)) 1 2)) Nobody
+    go : (b : Bool) → some (either g) n ≡ b
+        → firstHit h n ≡ cond b (Row (least (either g) n) (cond (g one (least (either g) n)) 1 2)) Nobody
     go true e = rw (at, e, f one (least (either g) n) (ltb-true _ _ e))
     go false e = rw (at, e)
 
@@ -74,7 +76,8 @@ pub record Starts (p l : ℕ) (ds os : List ℕ) (j : ℕ) (xs ys : List ℕ) : 
   pub low : (i : ℕ) → i < j → getD os i 0 < p
 
 module _ (p l : ℕ) (ds os : List ℕ) (j : ℕ) (xs ys : List ℕ) (s : Starts p l ds os j xs ys) where
-  near-hits : (d a : ℕ) → a < p → (c : Crossing) (i : ℕ) → i < j → near p l (take j xs) (take j ys) a (second p d a) c i ≡ hits p l ds os d a c i
+  near-hits : (d a : ℕ) → a < p → (c : Crossing) (i : ℕ) → i < j
+      → near p l (take j xs) (take j ys) a (second p d a) c i ≡ hits p l ds os d a c i
   unfolding near hits start
   near-hits d a h one i q = rw (getD-take j xs i 0 q, s .firsts i q) (sym (meets-apart _ _ _ _ (s .low i q) h (s .span-high)))
   near-hits d a h two i q =
@@ -119,7 +122,8 @@ hit-is h n i m e = go (some (either h) n) refl e
     at : ℕ
     at = least (either h) n
 
-    pick : (x : Bool) → h one at ≡ x → at < n → either h at ≡ true → i ≡ at → m ≡ cond x 1 2 → (c : Crossing) × (m ≡ numbered c) × FirstHit h n i c
+    pick : (x : Bool) → h one at ≡ x → at < n → either h at ≡ true → i ≡ at → m ≡ cond x 1 2
+        → (c : Crossing) × (m ≡ numbered c) × FirstHit h n i c
     pick true f l s a b =
         rw (a, b) (one, refl, record { row = l; before = least-is (either h) n .before; here = f; first = λ x _. low x })
       where
@@ -133,6 +137,7 @@ hit-is h n i m e = go (some (either h) n) refl e
         high one g = clash g f
         high two g = omega arith
 
-    go : (b : Bool) → some (either h) n ≡ b → cond b (Row at (cond (h one at) 1 2)) Nobody ≡ Row i m → (c : Crossing) × (m ≡ numbered c) × FirstHit h n i c
+    go : (b : Bool) → some (either h) n ≡ b → cond b (Row at (cond (h one at) 1 2)) Nobody ≡ Row i m
+        → (c : Crossing) × (m ≡ numbered c) × FirstHit h n i c
     go true f g = pick (h one at) refl (ltb-true _ _ f) (some-has (either h) n f) (sym (ap rowOf g)) (sym (ap crossingOf g))
     go false f g = clash (sym (ap isNobody g)) refl

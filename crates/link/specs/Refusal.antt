@@ -5,7 +5,8 @@ use Prim.Native.Nat.{ℕ}
 use lib.Dec.{ltb, leb, eqb}
 use lib.ListN.{length, getD}
 use Rattle.link.specs.Least.{least, some}
-use Rattle.link.specs.Limits.{maxPeriod, maxDelay, maxRows, maxExactRows, badPeriod, badSize, badDelay, badRows, badLength, tooManyRows, badOffset}
+use Rattle.link.specs.Limits.{maxPeriod, maxDelay, maxRows, maxExactRows, badPeriod, badSize, badDelay, badRows, badLength}
+use Rattle.link.specs.Limits.{tooManyRows, badOffset}
 use Rattle.link.specs.declared.Link.{Link}
 use Rattle.link.specs.declared.Judged.{Judged}
 use Rattle.link.specs.declared.Judged.the-variants.{Fine, Fault}

@@ -21,6 +21,7 @@ unfolding second
 next-second p d a b step e = rw e (mod-add-mod (a + d) p step ∙ ap (λ (x : ℕ). x % p) (add-right-comm a d step))
 
 -- what the call tells of the candidate c
-pub opens : (p l d : ℕ) (xs ys : List ℕ) (step c a b : ℕ) (m : Met) → a ≡ c * step → b ≡ second p d a → m ≡ firstNear p l xs ys a b → openTo p l d xs ys step c ≡ isNobody m
+pub opens : (p l d : ℕ) (xs ys : List ℕ) (step c a b : ℕ) (m : Met) → a ≡ c * step → b ≡ second p d a → m ≡ firstNear p l xs ys a b
+    → openTo p l d xs ys step c ≡ isNobody m
 unfolding openTo
 opens p l d xs ys step c a b m e f g = rw (g, f, e)

@@ -41,6 +41,7 @@ module _ (k : Link) (ds old : List ℕ) (step count : ℕ) where
   unfolding quick
   refused n p e = rw e
 
-  pub went : (o : Outcome) → first (plannerFaults k ds (length old)) ≡ Fine → o ≡ outcome (placed (k .period) (spanOf k) ds step count (length ds)) old → o ≡ quick k ds old step count
+  pub went : (o : Outcome) → first (plannerFaults k ds (length old)) ≡ Fine
+      → o ≡ outcome (placed (k .period) (spanOf k) ds step count (length ds)) old → o ≡ quick k ds old step count
   unfolding quick
   went o e f = rw e f

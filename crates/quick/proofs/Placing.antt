@@ -76,7 +76,8 @@ module _
           stays p l ds step count (suc j) j n (rw (s .done, le-ltb _ count (subst (λ (x : ℕ). count ≤ x) least-free h))) (omega arith)
 
       -- one row more
-      pub onward : (b : ℕ) → c < count → b ≡ second p (getD ds j 0) (c * step) → State p l ds step count (j + 1) (set xs j (c * step)) (set ys j b)
+      pub onward : (b : ℕ) → c < count → b ≡ second p (getD ds j 0) (c * step)
+          → State p l ds step count (j + 1) (set xs j (c * step)) (set ys j b)
       unfolding placed place
       onward b h f =
           record {

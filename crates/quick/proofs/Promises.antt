@@ -38,7 +38,8 @@ again Plan = refl
 again (Refused n p) = refl
 
 -- no second answer, and no second content of the list, meets the contract
-pub no-second : (k : Link) (ds old : List ℕ) (step count : ℕ) (r s : Planned) (new other : List ℕ) → gives (said r) new ≡ quick k ds old step count → gives (said s) other ≡ quick k ds old step count → (r ≡ s) × (new ≡ other)
+pub no-second : (k : Link) (ds old : List ℕ) (step count : ℕ) (r s : Planned) (new other : List ℕ)
+    → gives (said r) new ≡ quick k ds old step count → gives (said s) other ≡ quick k ds old step count → (r ≡ s) × (new ≡ other)
 no-second k ds old step count r s new other e f = (
   unique.no-second said unsaid again (ap (λ (o : Outcome). o .answer) e) (ap (λ (o : Outcome). o .answer) f),
   ap (λ (o : Outcome). o .leaves) (e ∙ sym f),
@@ -68,7 +69,9 @@ module _ (k : Link) (ds old : List ℕ) (step count : ℕ) (r : Planned) (new : 
   unfolding quick outcome said
   plan-is-right c = go (first (plannerFaults k ds (length old))) refl (placed (k .period) (spanOf k) ds step count (length ds)) (told (k .period) (spanOf k) ds step count (length ds)) (rw c at e)
     where
-      go : (f : Judged) → first (plannerFaults k ds (length old)) ≡ f → (o : Progress) → Says (k .period) (spanOf k) ds step count (length ds) o → gives (says plan 0 0) new ≡ unless f old (outcome o old) → GivenPlan k ds old step count new
+      go : (f : Judged) → first (plannerFaults k ds (length old)) ≡ f → (o : Progress)
+          → Says (k .period) (spanOf k) ds step count (length ds) o → gives (says plan 0 0) new ≡ unless f old (outcome o old)
+          → GivenPlan k ds old step count new
       go (Fault n q) fe o w g = clash {x = false} (sym (ap planned g)) refl
       go Fine fe o (some-row j h s) g = clash {x = false} (sym (ap planned g)) refl
       go Fine fe o (all os w) g =
@@ -87,7 +90,9 @@ module _ (k : Link) (ds old : List ℕ) (step count : ℕ) (r : Planned) (new : 
   unfolding quick outcome said
   thirteen-exactly j = (there, back)
     where
-      go : (f : Judged) → first (plannerFaults k ds (length old)) ≡ f → (o : Progress) → Says (k .period) (spanOf k) ds step count (length ds) o → gives (says refusal noOffset j) new ≡ unless f old (outcome o old) → NoOffset k ds old step count j
+      go : (f : Judged) → first (plannerFaults k ds (length old)) ≡ f → (o : Progress)
+          → Says (k .period) (spanOf k) ds step count (length ds) o → gives (says refusal noOffset j) new ≡ unless f old (outcome o old)
+          → NoOffset k ds old step count j
       go (Fault n q) fe o w g =
           let m : noOffset ≡ n = ap number g in
           absurd (omega (arith, planner-low k ds (length old) n q fe))

@@ -19,11 +19,13 @@ use Rattle.quick.proofs.Placing.{stays}
 
 module _ (p l : ℕ) (ds : List ℕ) (step count : ℕ) where
   -- whether a candidate is free goes by the rows before
-  free-same : (os ps : List ℕ) (j c : ℕ) → ((i : ℕ) → i < j → getD os i 0 ≡ getD ps i 0) → freeAt p l ds os j step c ≡ freeAt p l ds ps j step c
+  free-same : (os ps : List ℕ) (j c : ℕ) → ((i : ℕ) → i < j → getD os i 0 ≡ getD ps i 0)
+      → freeAt p l ds os j step c ≡ freeAt p l ds ps j step c
   unfolding freeAt
   free-same os ps j c h = free-cong p l ds os ps j (getD ds j 0) (c * step) h
 
-  least-same : (os ps : List ℕ) (j c : ℕ) → ((i : ℕ) → i < j → getD os i 0 ≡ getD ps i 0) → LeastFree p l ds step count ps j c → LeastFree p l ds step count os j c
+  least-same : (os ps : List ℕ) (j c : ℕ) → ((i : ℕ) → i < j → getD os i 0 ≡ getD ps i 0) → LeastFree p l ds step count ps j c
+      → LeastFree p l ds step count os j c
   least-same os ps j c h f =
       record {
         candidate = f .candidate;
@@ -36,7 +38,8 @@ module _ (p l : ℕ) (ds : List ℕ) (step count : ℕ) where
     front : (i : ℕ) → i < n → getD (ps ++ (c * step ∷ [])) i 0 ≡ getD ps i 0
     front i q = List·getD-append ps (c * step ∷ []) 0 i (omega (arith, w .as-many))
 
-    here : (j : ℕ) → j < suc n → (c′ : ℕ) × (getD (ps ++ (c * step ∷ [])) j 0 ≡ c′ * step) × LeastFree p l ds step count (ps ++ (c * step ∷ [])) j c′
+    here : (j : ℕ) → j < suc n
+        → (c′ : ℕ) × (getD (ps ++ (c * step ∷ [])) j 0 ≡ c′ * step) × LeastFree p l ds step count (ps ++ (c * step ∷ [])) j c′
     here j q =
         ⊎-elim
         (λ m. let e = w .each j m in (e .0, front j m ∙ e .1, least-same _ ps j (e .0) (λ i z. front i (omega arith)) (e .2)))
@@ -59,7 +62,8 @@ module _ (p l : ℕ) (ds : List ℕ) (step count : ℕ) where
       free : List ℕ → ℕ → Bool
       free ps = freeAt p l ds ps n step
 
-      pick : (ps : List ℕ) → Placed p l ds step count n ps → (b : Bool) → some (free ps) count ≡ b → Says (suc n) (cond b (rows (ps ++ (least (free ps) count * step ∷ []))) (stuck n))
+      pick : (ps : List ℕ) → Placed p l ds step count n ps → (b : Bool) → some (free ps) count ≡ b
+          → Says (suc n) (cond b (rows (ps ++ (least (free ps) count * step ∷ []))) (stuck n))
       pick ps w true e =
           all _ (longer ps n (least (free ps) count) w
           (record { candidate = ltb-true _ _ e; is-free = some-has (free ps) count e; least = least-is (free ps) count .before }))
@@ -70,7 +74,9 @@ module _ (p l : ℕ) (ds : List ℕ) (step count : ℕ) where
       go o (some-row j h s) = some-row j (omega arith) s
 
   -- the other way round: rows placed right are what `placed` gives
-  pub placed-is : (os : List ℕ) (n : ℕ) → n ≤ length os → ((j : ℕ) → j < n → (c : ℕ) × (getD os j 0 ≡ c * step) × LeastFree p l ds step count os j c) → placed p l ds step count n ≡ rows (take n os)
+  pub placed-is : (os : List ℕ) (n : ℕ) → n ≤ length os
+      → ((j : ℕ) → j < n → (c : ℕ) × (getD os j 0 ≡ c * step) × LeastFree p l ds step count os j c)
+      → placed p l ds step count n ≡ rows (take n os)
   unfolding placed place
   placed-is os zero h each = refl
   placed-is os (suc n) h each =

@@ -30,29 +30,35 @@ old = 9 ∷ 9 ∷ 9 ∷ 9 ∷ []
 
 -- "10, 2, (0 3 7): First Fit 0 2 5; Meta-Offset 0 2 6"
 pub first-fit-1 : gives (said Plan) (0 ∷ 2 ∷ 5 ∷ 9 ∷ []) ≡ firstFit (link 10 2) ds₁ old
-unfolding said quick outcome placed place freeAt free hits first andThen linkFaults rowFaults roomFaults start outside either second uses meets least oneMore
+unfolding said quick outcome placed place freeAt free hits first andThen linkFaults rowFaults roomFaults start outside either second uses
+    meets least oneMore
 first-fit-1 = refl
 
 pub meta-offset-1 : gives (said Plan) (0 ∷ 2 ∷ 6 ∷ 9 ∷ []) ≡ metaOffset (link 10 2) ds₁ old
-unfolding said quick outcome placed place freeAt free hits first andThen linkFaults rowFaults roomFaults start outside either second uses meets least oneMore
+unfolding said quick outcome placed place freeAt free hits first andThen linkFaults rowFaults roomFaults start outside either second uses
+    meets least oneMore
 meta-offset-1 = refl
 
 -- "4, 1, (0 2 1 1): First Fit and Meta-Offset refuse 13 at row 2"
 pub first-fit-2 : gives (said (Refused noOffset 2)) old ≡ firstFit (link 4 1) ds₂ old
-unfolding said quick outcome placed place freeAt free hits first andThen linkFaults rowFaults roomFaults start outside either second uses meets least oneMore
+unfolding said quick outcome placed place freeAt free hits first andThen linkFaults rowFaults roomFaults start outside either second uses
+    meets least oneMore
 first-fit-2 = refl
 
 pub meta-offset-2 : gives (said (Refused noOffset 2)) old ≡ metaOffset (link 4 1) ds₂ old
-unfolding said quick outcome placed place freeAt free hits first andThen linkFaults rowFaults roomFaults start outside either second uses meets least oneMore
+unfolding said quick outcome placed place freeAt free hits first andThen linkFaults rowFaults roomFaults start outside either second uses
+    meets least oneMore
 meta-offset-2 = refl
 
 -- "5, 2, (0 4): First Fit 0 3", "1, 1, (0 0): First Fit 13 at row 1"
 pub first-fit-3 : gives (said Plan) (0 ∷ 3 ∷ 9 ∷ 9 ∷ []) ≡ firstFit (link 5 2) (0 ∷ 4 ∷ []) old
-unfolding said quick outcome placed place freeAt free hits first andThen linkFaults rowFaults roomFaults start outside either second uses meets least oneMore
+unfolding said quick outcome placed place freeAt free hits first andThen linkFaults rowFaults roomFaults start outside either second uses
+    meets least oneMore
 first-fit-3 = refl
 
 pub first-fit-4 : gives (said (Refused noOffset 1)) old ≡ firstFit (link 1 1) (0 ∷ 0 ∷ []) old
-unfolding said quick outcome placed place freeAt free hits first andThen linkFaults rowFaults roomFaults start outside either second uses meets least oneMore
+unfolding said quick outcome placed place freeAt free hits first andThen linkFaults rowFaults roomFaults start outside either second uses
+    meets least oneMore
 first-fit-4 = refl
 
 pub right-1 : GivenPlan (link 10 2) ds₁ old 1 10 (0 ∷ 2 ∷ 5 ∷ 9 ∷ [])

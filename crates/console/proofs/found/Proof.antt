@@ -31,7 +31,9 @@ unfolding foundLines
 returns c =
     let u = c .before .before .before .before .before .before .before .before .before .before .before .before .before .before .before .args in
     let one : 0 + length foundWord ≤ length (u .out .now) = omega arith in
-    let two = and-then (u .out .now) 0 foundWord one _ _ (c .before .before .before .before .before .before .before .before .before .before .word .ensures) _ _ _ (c .before .before .before .before .before .before .line .ensures .0) in
+    let at-word = c .before .before .before .before .before .before .before .before .before .before .word in
+    let at-line = c .before .before .before .before .before .before .line in
+    let two = and-then (u .out .now) 0 foundWord one _ _ (at-word .ensures) _ _ _ (at-line .ensures .0) in
     let fits : 0 + length (foundWord ++ numberLine (u .tests)) ≤ length (u .out .now) =
     rw (length-append foundWord (numberLine (u .tests))) (omega (arith, line-short (u .tests))) in
     and-then (u .out .now) 0 (foundWord ++ numberLine (u .tests)) fits _ _ two _ _ _ (c .before .before .offset-lines .ensures)

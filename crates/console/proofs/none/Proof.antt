@@ -26,7 +26,8 @@ unfolding noneLine
 returns c =
     let u = c .before .before .before .before .before .before .before .before .before .before in
     let fits : 0 + length noneWord ≤ length (u .args .out .now) = omega arith in
-    and-then (u .args .out .now) 0 noneWord fits _ _ (c .before .before .before .before .before .before .word .ensures) _ _ _ (c .before .before .line .ensures .0)
+    let at-word = c .before .before .before .before .before .before .word in
+    and-then (u .args .out .now) 0 noneWord fits _ _ (at-word .ensures) _ _ _ (c .before .before .line .ensures .0)
 
 pub none-spec : {M : Type 1} → statement M
 none-spec =

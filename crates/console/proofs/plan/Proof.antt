@@ -28,13 +28,16 @@ array-share-prefix-offsets : tie.Need-array-share-prefix-offsets
 array-share-prefix-offsets c = search needs
 
 slice-aggregate-found : tie.Need-slice-aggregate-found
-slice-aggregate-found c = sym (length-take-le _ _ (omega (arith, c .before .before .before .before .before .before .exact .kept .1 .1 .1 .0)))
+slice-aggregate-found c =
+    let at-exact = c .before .before .before .before .before .before .exact in
+    sym (length-take-le _ _ (omega (arith, at-exact .kept .1 .1 .1 .0)))
 
 found-requires : tie.Need-found-requires
 found-requires c κs =
     let x = c .before .before .before .before .before .before .exact in
     let few = plan-few _ _ _ _ _ (x .ensures) _ (c .before .before .before .tests .given .1) in
-    (rw (length-take-le (length (c .before .before .before .before .before .before .before .before .before .before .before .args .delays .now)) (x .last .1 .1 .1 .0) (omega (arith, x .kept .1 .1 .1 .0))) few, omega arith)
+    let at-args = c .before .before .before .before .before .before .before .before .before .before .before .args in
+    (rw (length-take-le (length (at-args .delays .now)) (x .last .1 .1 .1 .0) (omega (arith, x .kept .1 .1 .1 .0))) few, omega arith)
 
 enum-known-tests-2 : tie.Need-enum-known-tests-2
 enum-known-tests-2 c = search needs
@@ -63,7 +66,9 @@ returns c =
     let u = c .before .before .before .before .before .before .before .before .before .before .before .before .before .before .args in
     let x = c .before .before .before .before .before .before .before .before .before .exact in
     let call = c .before .before .found in
-    let shows = planned-as _ _ _ _ _ (x .ensures) _ (c .before .before .before .before .before .before .tests .given .1) (c .before .before .before .before .before .before .before .before .before .before .before .ceiling .ensures) in
+    let at-tests = c .before .before .before .before .before .before .tests in
+    let at-ceiling = c .before .before .before .before .before .before .before .before .before .before .before .ceiling in
+    let shows = planned-as _ _ _ _ _ (x .ensures) _ (at-tests .given .1) (at-ceiling .ensures) in
     subst (λ (w : List ℕ). Adds (u .out .now) 0 w (call .result) (call .last .0)) shows (call .ensures)
 
 same-length-2 : tie.Need-same-length-2
@@ -75,7 +80,9 @@ returns-2 c =
     let u = c .before .before .before .before .before .before .before .before .before .before .before .before .before .args in
     let x = c .before .before .before .before .before .before .before .before .exact in
     let call = c .before .before .none in
-    let shows = planned-as _ _ _ _ _ (x .ensures) _ (c .before .before .before .before .before .tests2 .given .1) (c .before .before .before .before .before .before .before .before .before .before .ceiling .ensures) in
+    let at-tests2 = c .before .before .before .before .before .tests2 in
+    let at-ceiling = c .before .before .before .before .before .before .before .before .before .before .ceiling in
+    let shows = planned-as _ _ _ _ _ (x .ensures) _ (at-tests2 .given .1) (at-ceiling .ensures) in
     subst (λ (w : List ℕ). Adds (u .out .now) 0 w (call .result) (call .last .0)) shows (call .ensures)
 
 same-length-3 : tie.Need-same-length-3
@@ -87,7 +94,9 @@ returns-3 c =
     let u = c .before .before .before .before .before .before .before .before .before .before .before .before .args in
     let x = c .before .before .before .before .before .before .before .exact in
     let call = c .before .before .refused in
-    let shows = planned-as _ _ _ _ _ (x .ensures) _ (c .before .before .before .before .enum-told .given .1) (c .before .before .before .before .before .before .before .before .before .ceiling .ensures) in
+    let at-enum-told = c .before .before .before .before .enum-told in
+    let at-ceiling = c .before .before .before .before .before .before .before .before .before .ceiling in
+    let shows = planned-as _ _ _ _ _ (x .ensures) _ (at-enum-told .given .1) (at-ceiling .ensures) in
     subst (λ (w : List ℕ). Adds (u .out .now) 0 w (call .result) (call .last .0)) shows (call .ensures)
 
 same-length-4 : tie.Need-same-length-4
@@ -99,7 +108,9 @@ returns-4 c =
     let u = c .before .before .before .before .before .before .before .before .before .before .before .before .before .args in
     let x = c .before .before .before .before .before .before .before .before .exact in
     let call = c .before .before .refused2 in
-    let shows = planned-as _ _ _ _ _ (x .ensures) _ (c .before .before .before .before .before .number .given .1) (c .before .before .before .before .before .before .before .before .before .before .ceiling .ensures) in
+    let at-number = c .before .before .before .before .before .number in
+    let at-ceiling = c .before .before .before .before .before .before .before .before .before .before .ceiling in
+    let shows = planned-as _ _ _ _ _ (x .ensures) _ (at-number .given .1) (at-ceiling .ensures) in
     subst (λ (w : List ℕ). Adds (u .out .now) 0 w (call .result) (call .last .0)) shows (call .ensures)
 
 pub plan-spec : {M : Type 1} → statement M

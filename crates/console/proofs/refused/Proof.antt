@@ -24,7 +24,10 @@ slice-aggregate-word-2 : tie.Need-slice-aggregate-word-2
 slice-aggregate-word-2 c = search needs
 
 word-requires-2 : tie.Need-word-requires-2
-word-requires-2 c κs = let d = c .before .before .before .before .decimal in let w = c .before .before .before .before .before .before .before .before .word in omega (arith, d .kept .0, w .kept .0, d .ensures .1, w .ensures .end)
+word-requires-2 c κs =
+    let at-decimal = c .before .before .before .before .decimal in
+    let at-word = c .before .before .before .before .before .before .before .before .word in
+    let d = at-decimal in let w = at-word in omega (arith, d .kept .0, w .kept .0, d .ensures .1, w .ensures .end)
 
 line-requires : tie.Need-line-requires
 line-requires c κs =

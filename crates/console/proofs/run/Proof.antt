@@ -28,18 +28,24 @@ enum-known-period : tie.Need-enum-known-period
 enum-known-period c = search needs
 
 array-share-prefix-delays : tie.Need-array-share-prefix-delays
-array-share-prefix-delays c = let r = c .before .before .before .before .read-table in omega (arith, rows-few _ _ _ (c .before .before .before .before .read-table .ensures .0) (c .before .before .before .before .read-table .ensures .1) _ _ _ (c .before .period .given .1), r .kept .1 .0)
+array-share-prefix-delays c =
+    let at-read-table = c .before .before .before .before .read-table in
+    let r = at-read-table in omega (arith, rows-few _ _ _ (at-read-table .ensures .0) (at-read-table .ensures .1) _ _ _ (c .before .period .given .1), r .kept .1 .0)
 
 slice-aggregate-plan : tie.Need-slice-aggregate-plan
 slice-aggregate-plan c =
     let r = c .before .before .before .before .before .read-table in
-    sym (length-take-le _ _ (omega (arith, rows-few _ _ _ (c .before .before .before .before .before .read-table .ensures .0) (c .before .before .before .before .before .read-table .ensures .1) _ _ _ (c .before .before .period .given .1), r .kept .1 .0)))
+    let at-read-table = c .before .before .before .before .before .read-table in
+    sym (length-take-le _ _ (omega (arith, rows-few _ _ _ (at-read-table .ensures .0) (at-read-table .ensures .1) _ _ _ (c .before .before .period .given .1), r .kept .1 .0)))
 
 plan-requires : tie.Need-plan-requires
 plan-requires c κs =
     let r = c .before .before .before .before .before .before .read-table in
-    let few = rows-few _ _ _ (c .before .before .before .before .before .before .read-table .ensures .0) (c .before .before .before .before .before .before .read-table .ensures .1) _ _ _ (c .before .before .before .period .given .1) in
-    (rw (length-take-le (c .before .before .before .period .given .0 .1 .1 .0) (r .last .1 .0) (omega (arith, few, r .kept .1 .0))) few, search needs)
+    let at-read-table = c .before .before .before .before .before .before .read-table in
+    let at-period = c .before .before .before .period in
+    let few = rows-few _ _ _ (at-read-table .ensures .0) (at-read-table .ensures .1) _ _ _ (at-period .given .1) in
+    let at-period = c .before .before .before .period in
+    (rw (length-take-le (at-period .given .0 .1 .1 .0) (r .last .1 .0) (omega (arith, few, r .kept .1 .0))) few, search needs)
 
 returns : tie.Need-returns
 unfolding said
@@ -54,7 +60,9 @@ unfolding said
 returns-2 c =
     let u = c .before .before .before .before .before .before .before .before .before .before .args in
     let r = c .before .before .before .before .before .before .before .read-table in
-    let few = rows-few _ _ _ (c .before .before .before .before .before .before .before .read-table .ensures .0) (c .before .before .before .before .before .before .before .read-table .ensures .1) _ _ _ (c .before .before .before .before .period .given .1) in
+    let at-read-table = c .before .before .before .before .before .before .before .read-table in
+    let at-period = c .before .before .before .before .period in
+    let few = rows-few _ _ _ (at-read-table .ensures .0) (at-read-table .ensures .1) _ _ _ (at-period .given .1) in
     let rows = c .before .before .before .before .period .given .0 .1 .1 .0 in
     let shows = printed-as (u .input .now) _ _ (r .ensures .0) (r .ensures .1) _ (c .before .before .before .before .period .given .1) in
     let all = length-take-le rows (r .last .1 .0) (omega (arith, few, r .kept .1 .0)) in

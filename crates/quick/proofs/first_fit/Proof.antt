@@ -33,7 +33,9 @@ same-length c = search needs
 
 returns-2 : tie.Need-returns-2
 returns-2 c =
-    let fine = sym (c .before .before .before .before .before .before .before .planner .ensures) ∙ c .before .before .before .before .before .enum-told .given .1 in
+    let at-planner = c .before .before .before .before .before .before .before .planner in
+    let at-enum-told = c .before .before .before .before .before .enum-told in
+    let fine = sym (at-planner .ensures) ∙ at-enum-told .given .1 in
     went _ _ _ _ _ _ fine (rw (c .before .before .before .before .span .ensures) at (c .before .before .plan .ensures))
 
 pub first-fit-spec : {M : Type 1} → statement M

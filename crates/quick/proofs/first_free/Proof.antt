@@ -48,7 +48,8 @@ add-c c = search needs
 add-a : tie.Need-add-a Inv-loop μ-loop
 add-a c =
     let u = c .before .before .before .before .before .before .before .before in
-    omega (arith, next-low (c .before .before .before .before .loop .c) (u .args .count) (u .args .step) (omega arith), u .pre .0 .low, u .pre .0 .period)
+    let at-loop = c .before .before .before .before .loop in
+    omega (arith, next-low (at-loop .c) (u .args .count) (u .args .step) (omega arith), u .pre .0 .low, u .pre .0 .period)
 
 turn-requires : tie.Need-turn-requires Inv-loop μ-loop
 turn-requires c κs =
@@ -63,7 +64,8 @@ loop-less c = search needs
 loop-again : tie.Need-loop-again Inv-loop μ-loop
 loop-again c =
     let l = c .before .before .before .before .before .loop in
-    let shut = opens _ _ _ _ _ _ _ _ _ _ (l .inv .1) (l .inv .2) (c .before .before .before .first-met .ensures) ∙ ap isNobody (c .before .enum-told2 .given .1) in
+    let at-first-met = c .before .before .before .first-met in
+    let shut = opens _ _ _ _ _ _ _ _ _ _ (l .inv .1) (l .inv .2) (at-first-met .ensures) ∙ ap isNobody (c .before .enum-told2 .given .1) in
     (omega arith, next-is _ _ _ (l .inv .1), c .turn .ensures .0 ∙ next-second _ _ _ _ _ (l .inv .2), below-more _ _ (l .inv .3) shut)
 
 returns-2 : tie.Need-returns-2 Inv-loop μ-loop

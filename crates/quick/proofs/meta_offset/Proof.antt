@@ -20,11 +20,16 @@ span-requires : tie.Need-span-requires
 span-requires c κs = search needs
 
 div-plan : tie.Need-div-plan
-div-plan c = rw (c .before .before .span .ensures) (good-room _ _ _ (sym (c .before .before .before .before .before .planner .ensures) ∙ c .before .before .before .enum-told .given .1) .0 .span-low)
+div-plan c =
+    let at-planner = c .before .before .before .before .before .planner in
+    let at-enum-told = c .before .before .before .enum-told in
+    rw (c .before .before .span .ensures) (good-room _ _ _ (sym (at-planner .ensures) ∙ at-enum-told .given .1) .0 .span-low)
 
 plan-requires : tie.Need-plan-requires
 plan-requires c κs =
-    let g = good-room _ _ _ (sym (c .before .before .before .before .before .planner .ensures) ∙ c .before .before .before .enum-told .given .1) in
+    let at-planner = c .before .before .before .before .before .planner in
+    let at-enum-told = c .before .before .before .enum-told in
+    let g = good-room _ _ _ (sym (at-planner .ensures) ∙ at-enum-told .given .1) in
     rw (c .before .before .span .ensures) ((g .0 .rows-high, g .1), multiples _ _ (g .0))
 
 returns : tie.Need-returns
@@ -36,7 +41,9 @@ same-length c = search needs
 
 returns-2 : tie.Need-returns-2
 returns-2 c =
-    let fine = sym (c .before .before .before .before .before .before .before .before .planner .ensures) ∙ c .before .before .before .before .before .before .enum-told .given .1 in
+    let at-planner = c .before .before .before .before .before .before .before .before .planner in
+    let at-enum-told = c .before .before .before .before .before .before .enum-told in
+    let fine = sym (at-planner .ensures) ∙ at-enum-told .given .1 in
     went _ _ _ _ _ _ fine (rw (c .before .before .before .before .before .span .ensures) at (c .before .before .plan .ensures))
 
 pub meta-offset-spec : {M : Type 1} → statement M

@@ -43,7 +43,8 @@ slice-aggregate-first-free-2 c = sym (length-take-le _ _ (omega arith))
 first-free-requires : tie.Need-first-free-requires Inv-loop μ-loop
 first-free-requires c κs =
     let l = c .before .before .before .before .loop in
-    (c .before .before .before .before .before .before .before .pre .1, same-front (l .j) (l .firsts) (l .seconds) (omega arith) (omega arith))
+    let at-pre = c .before .before .before .before .before .before .before .pre in
+    (at-pre .1, same-front (l .j) (l .firsts) (l .seconds) (omega arith) (omega arith))
 
 returns : tie.Need-returns Inv-loop μ-loop
 unfolding said outcome

@@ -46,28 +46,40 @@ same-length c = search needs
 
 returns : tie.Need-returns
 unfolding said
-returns c = searched _ _ _ _ _ (c .before .before .before .before .before .before .before .exact .ensures .told) (c .before .before .before .before .before .before .before .exact .ensures .left) (c .before .before .before .tests .given .1) (c .three .ensures)
+returns c =
+    let at-exact = c .before .before .before .before .before .before .before .exact in
+    let at-tests = c .before .before .before .tests in
+    searched _ _ _ _ _ (at-exact .ensures .told) (at-exact .ensures .left) (at-tests .given .1) (c .three .ensures)
 
 same-length-2 : tie.Need-same-length-2
 same-length-2 c = search needs
 
 returns-2 : tie.Need-returns-2
 unfolding said
-returns-2 c = searched _ _ _ _ _ (c .before .before .before .before .before .before .before .exact .ensures .told) (c .before .before .before .before .before .before .before .exact .ensures .left) (c .before .before .before .tests2 .given .1) (c .three2 .ensures)
+returns-2 c =
+    let at-exact = c .before .before .before .before .before .before .before .exact in
+    let at-tests2 = c .before .before .before .tests2 in
+    searched _ _ _ _ _ (at-exact .ensures .told) (at-exact .ensures .left) (at-tests2 .given .1) (c .three2 .ensures)
 
 same-length-3 : tie.Need-same-length-3
 same-length-3 c = search needs
 
 returns-3 : tie.Need-returns-3
 unfolding said
-returns-3 c = searched _ _ _ _ _ (c .before .before .before .before .before .before .before .exact .ensures .told) (c .before .before .before .before .before .before .before .exact .ensures .left) (c .before .before .before .tests3 .given .1) (c .three3 .ensures)
+returns-3 c =
+    let at-exact = c .before .before .before .before .before .before .before .exact in
+    let at-tests3 = c .before .before .before .tests3 in
+    searched _ _ _ _ _ (at-exact .ensures .told) (at-exact .ensures .left) (at-tests3 .given .1) (c .three3 .ensures)
 
 same-length-4 : tie.Need-same-length-4
 same-length-4 c = search needs
 
 returns-4 : tie.Need-returns-4
 unfolding said
-returns-4 c = searched _ _ _ _ _ (c .before .before .before .before .before .before .before .exact .ensures .told) (c .before .before .before .before .before .before .before .exact .ensures .left) (c .before .before .before .number .given .1) (c .three4 .ensures)
+returns-4 c =
+    let at-exact = c .before .before .before .before .before .before .before .exact in
+    let at-number = c .before .before .before .number in
+    searched _ _ _ _ _ (at-exact .ensures .told) (at-exact .ensures .left) (at-number .given .1) (c .three4 .ensures)
 
 pub seamwhisk-exact-spec : {M : Type 1} → statement M
 seamwhisk-exact-spec =

@@ -28,14 +28,19 @@ same-length c = search needs
 
 returns : tie.Need-returns
 unfolding said
-returns c = planned _ _ _ _ _ (c .before .before .before .before .before .before .meta-offset .ensures) (c .before .before .enum-told .given .1) (c .two .ensures)
+returns c =
+    let at-meta-offset = c .before .before .before .before .before .before .meta-offset in
+    planned _ _ _ _ _ (at-meta-offset .ensures) (c .before .before .enum-told .given .1) (c .two .ensures)
 
 same-length-2 : tie.Need-same-length-2
 same-length-2 c = search needs
 
 returns-2 : tie.Need-returns-2
 unfolding said
-returns-2 c = planned _ _ _ _ _ (c .before .before .before .before .before .before .before .meta-offset .ensures) (c .before .before .before .number .given .1) (c .two2 .ensures)
+returns-2 c =
+    let at-meta-offset = c .before .before .before .before .before .before .before .meta-offset in
+    let at-number = c .before .before .before .number in
+    planned _ _ _ _ _ (at-meta-offset .ensures) (at-number .given .1) (c .two2 .ensures)
 
 pub seamwhisk-meta-offset-spec : {M : Type 1} → statement M
 seamwhisk-meta-offset-spec =

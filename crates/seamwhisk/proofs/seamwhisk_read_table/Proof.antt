@@ -34,14 +34,20 @@ same-length c = search needs
 
 returns : tie.Need-returns
 unfolding said
-returns c = read _ _ _ _ _ (c .before .before .before .before .before .before .before .read-table .ensures .0) (c .before .before .before .before .before .before .before .read-table .ensures .1) (c .before .before .before .period .given .1) (c .five .ensures)
+returns c =
+    let at-read-table = c .before .before .before .before .before .before .before .read-table in
+    let at-period = c .before .before .before .period in
+    read _ _ _ _ _ (at-read-table .ensures .0) (at-read-table .ensures .1) (at-period .given .1) (c .five .ensures)
 
 same-length-2 : tie.Need-same-length-2
 same-length-2 c = search needs
 
 returns-2 : tie.Need-returns-2
 unfolding said
-returns-2 c = read _ _ _ _ _ (c .before .before .before .before .before .before .before .read-table .ensures .0) (c .before .before .before .before .before .before .before .read-table .ensures .1) (c .before .before .before .number .given .1) (c .five2 .ensures)
+returns-2 c =
+    let at-read-table = c .before .before .before .before .before .before .before .read-table in
+    let at-number = c .before .before .before .number in
+    read _ _ _ _ _ (at-read-table .ensures .0) (at-read-table .ensures .1) (at-number .given .1) (c .five2 .ensures)
 
 pub seamwhisk-read-table-spec : {M : Type 1} → statement M
 seamwhisk-read-table-spec =

@@ -44,11 +44,17 @@ eight-requires-2 c κs = search needs
 
 returns : tie.Need-returns
 unfolding said
-returns c = c .eight .ensures ∙ ap reportedAs (sym (ap said (c .before .before .before .before .before .before .before .before .before .first .given .1)) ∙ c .before .before .before .before .before .before .before .before .before .before .before .report .ensures)
+returns c =
+    let at-first = c .before .before .before .before .before .before .before .before .before .first in
+    let at-report = c .before .before .before .before .before .before .before .before .before .before .before .report in
+    c .eight .ensures ∙ ap reportedAs (sym (ap said (at-first .given .1)) ∙ at-report .ensures)
 
 returns-2 : tie.Need-returns-2
 unfolding said
-returns-2 c = c .eight2 .ensures ∙ ap reportedAs (sym (ap said (c .before .before .before .number .given .1)) ∙ c .before .before .before .before .before .report .ensures)
+returns-2 c =
+    let at-number = c .before .before .before .number in
+    let at-report = c .before .before .before .before .before .report in
+    c .eight2 .ensures ∙ ap reportedAs (sym (ap said (at-number .given .1)) ∙ at-report .ensures)
 
 pub seamwhisk-report-spec : {M : Type 1} → statement M
 seamwhisk-report-spec =

@@ -28,14 +28,20 @@ same-length c = search needs
 
 returns : tie.Need-returns
 unfolding writtenSaid
-returns c = written _ _ _ _ _ (c .before .before .before .before .before .before .before .write-plan .ensures .0) (c .before .before .before .before .before .before .before .write-plan .ensures .1) (c .before .before .before .length .given .1) (c .three .ensures)
+returns c =
+    let at-write-plan = c .before .before .before .before .before .before .before .write-plan in
+    let at-length = c .before .before .before .length in
+    written _ _ _ _ _ (at-write-plan .ensures .0) (at-write-plan .ensures .1) (at-length .given .1) (c .three .ensures)
 
 same-length-2 : tie.Need-same-length-2
 same-length-2 c = search needs
 
 returns-2 : tie.Need-returns-2
 unfolding writtenSaid
-returns-2 c = written _ _ _ _ _ (c .before .before .before .before .before .before .before .write-plan .ensures .0) (c .before .before .before .before .before .before .before .write-plan .ensures .1) (c .before .before .before .number .given .1) (c .three2 .ensures)
+returns-2 c =
+    let at-write-plan = c .before .before .before .before .before .before .before .write-plan in
+    let at-number = c .before .before .before .number in
+    written _ _ _ _ _ (at-write-plan .ensures .0) (at-write-plan .ensures .1) (at-number .given .1) (c .three2 .ensures)
 
 pub seamwhisk-write-plan-spec : {M : Type 1} → statement M
 seamwhisk-write-plan-spec =

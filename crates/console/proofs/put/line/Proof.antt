@@ -27,7 +27,8 @@ returns c =
     let u = c .before .before .before .before .before .before .before .before .before .before .args in
     let d = c .before .before .before .before .before .before .before .decimal in
     let w = c .before .before .word in
-    let fits : u .at + length (number (u .n)) ≤ length (u .out .now) = omega (arith, number-short (u .n), c .before .before .before .before .before .before .before .before .before .before .pre) in
+    let at-pre = c .before .before .before .before .before .before .before .before .before .before .pre in
+    let fits : u .at + length (number (u .n)) ≤ length (u .out .now) = omega (arith, number-short (u .n), at-pre) in
     (and-then (u .out .now) (u .at) (number (u .n)) fits _ _ (d .ensures .0) _ _ _ (w .ensures), omega (arith, w .ensures .end, d .ensures .1))
 
 pub line-spec : {M : Type 1} → statement M

@@ -18,7 +18,9 @@ enum-told c = search needs
 
 returns : tie.Need-returns
 unfolding exactFaults
-returns c = front-pass _ _ _ (sym (c .before .before .before .planner .ensures) ∙ c .before .enum-told .given .1) (hit _ _ _ _ (lt-ltb _ _ (c .if1 .taken)))
+returns c =
+    let at-planner = c .before .before .before .planner in
+    front-pass _ _ _ (sym (at-planner .ensures) ∙ c .before .enum-told .given .1) (hit _ _ _ _ (lt-ltb _ _ (c .if1 .taken)))
 
 returns-2 : tie.Need-returns-2
 unfolding exactFaults
@@ -26,7 +28,9 @@ returns-2 c = front-hit _ _ _ _ (sym (c .before .before .before .planner .ensure
 
 returns-3 : tie.Need-returns-3
 unfolding exactFaults
-returns-3 c = front-pass _ _ _ (sym (c .before .before .before .planner .ensures) ∙ c .before .enum-told .given .1) (pass _ _ _ _ (le-ltb _ _ (c .if1 .left)) fine)
+returns-3 c =
+    let at-planner = c .before .before .before .planner in
+    front-pass _ _ _ (sym (at-planner .ensures) ∙ c .before .enum-told .given .1) (pass _ _ _ _ (le-ltb _ _ (c .if1 .left)) fine)
 
 pub exact-spec : {M : Type 1} → statement M
 exact-spec =

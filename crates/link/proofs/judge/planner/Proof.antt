@@ -18,14 +18,18 @@ enum-told c = search needs
 
 returns : tie.Need-returns
 unfolding roomFaults
-returns c = front-pass _ _ _ (sym (c .before .before .before .table .ensures) ∙ c .before .enum-told .given .1) (hit _ _ _ _ (lt-ltb _ _ (c .if1 .taken)))
+returns c =
+    let at-table = c .before .before .before .table in
+    front-pass _ _ _ (sym (at-table .ensures) ∙ c .before .enum-told .given .1) (hit _ _ _ _ (lt-ltb _ _ (c .if1 .taken)))
 
 returns-2 : tie.Need-returns-2
 returns-2 c = front-hit _ _ _ _ (sym (c .before .before .before .table .ensures) ∙ c .before .number .given .1)
 
 returns-3 : tie.Need-returns-3
 unfolding roomFaults
-returns-3 c = front-pass _ _ _ (sym (c .before .before .before .table .ensures) ∙ c .before .enum-told .given .1) (pass _ _ _ _ (le-ltb _ _ (c .if1 .left)) fine)
+returns-3 c =
+    let at-table = c .before .before .before .table in
+    front-pass _ _ _ (sym (at-table .ensures) ∙ c .before .enum-told .given .1) (pass _ _ _ _ (le-ltb _ _ (c .if1 .left)) fine)
 
 pub planner-spec : {M : Type 1} → statement M
 planner-spec =
