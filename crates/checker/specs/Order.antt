@@ -13,7 +13,8 @@ pub record Collides (p l : ℕ) (ds os : List ℕ) (i j : ℕ) (c : Crossing) : 
   pub later : j < length ds
   pub meet : Meet p l (start p ds os c i) (start p ds os c j)
 
--- rows i and j in crossing c are not after rows i′ and j′ in crossing c′: "the least later row, then the least earlier row, then crossing 1 before 2"
+-- rows i and j in crossing c are not after rows i′ and j′ in crossing c′:
+-- "the least later row, then the least earlier row, then crossing 1 before 2"
 abbrev pub NotAfter : ℕ → ℕ → Crossing → ℕ → ℕ → Crossing → Type 0
 NotAfter i j c i′ j′ c′ = (j < j′) ⊎ ((j ≡ j′) × ((i < i′) ⊎ ((i ≡ i′) × (numbered c ≤ numbered c′))))
 

@@ -20,7 +20,8 @@ use Rattle.link.proofs.Bools.{or-none}
 use Rattle.link.proofs.Minimum.{none-has, some-none}
 use Rattle.link.proofs.Faults.{fine, pass, passed, front-pass, front-fine, inside, allNumbers, number-of}
 
-within : (lo hi x : ℕ) → outside lo hi x ≡ false → (lo ≤ x) × (x ≤ hi)
+-- and what the test of a range says
+pub within : (lo hi x : ℕ) → outside lo hi x ≡ false → (lo ≤ x) × (x ≤ hi)
 unfolding outside
 within lo hi x e = let w = or-none (ltb x lo) (ltb hi x) e in (ltb-false _ _ (w .0), ltb-false _ _ (w .1))
 

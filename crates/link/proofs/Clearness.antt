@@ -2,11 +2,13 @@
 use mathlib.Core.Path.{_≡_, refl, ap}
 use mathlib.Core.Bool.{Bool, true, false, not, _||_}
 use mathlib.Core.List.{List}
-use Prim.Native.Nat.{ℕ, _<_}
+use Prim.Native.Nat.{ℕ, _≤_, _<_}
+use native.Mathlib.Omega.{arith}
 use lib.Dec.{ltb}
 use lib.ListN.{length, getD}
 use borrow.Author.Tests.{not-true}
 use Rattle.link.specs.Least.{some}
+use Rattle.link.specs.Slots.{Uses}
 use Rattle.link.specs.Rows.{Crossing, one, two, start, hits, either, free, Clear}
 use Rattle.link.proofs.Bools.{clash, is-false, or-none}
 use Rattle.link.proofs.Minimum.{none-has, some-none, least-cong}
@@ -37,3 +39,10 @@ pub free-cong : (p l : ℕ) (ds os ps : List ℕ) (n d a : ℕ) → ((i : ℕ) �
     → free p l ds os n d a ≡ free p l ds ps n d a
 unfolding free hits either start
 free-cong p l ds os ps n d a h = ap (λ (x : ℕ). not (ltb x n)) (least-cong _ _ n (λ i q. rw (h i q)))
+
+-- messages that are clear of each other at a distance are so at a shorter one
+pub narrower : (p l t : ℕ) (ds os : List ℕ) → t ≤ l → Clear p l ds os → Clear p t ds os
+narrower p l t ds os h c = record { apart = λ x i j a b m. c .apart x i j a b (m .0, wide _ _ (m .1), wide _ _ (m .2)) }
+  where
+    wide : (a s : ℕ) → Uses p t a s → Uses p l a s
+    wide a s u = (u .0, omega (arith, u .1), u .2)

@@ -12,7 +12,7 @@ use Rattle.checker.specs.declared.Checked.the-variants as checked
 use Rattle.report.specs.Answer.{said, told, unless, answer}
 use Rattle.report.specs.declared.Reported.{Reported}
 use Rattle.report.specs.declared.Reported.the-variants.{Refused}
-use Rattle.report.proofs.ForChecker.{clear-plan}
+use Rattle.checker.proofs.Verdicts.{clear-plan}
 
 module _ (k : Link) (ds os : List ℕ) (c : Checked) (e : checker.said c ≡ checker.answer k ds os) where
   by-check : (d : Checked) → c ≡ d → unless (checker.said d) (told (k .period) (k .size) ds os) ≡ answer k ds os

@@ -1,6 +1,4 @@
 -- Laws that belong to no one function.
-pub mod ForLink
-pub mod ForChecker
 pub mod Counts
 pub mod Widths
 pub mod Summed

@@ -23,7 +23,7 @@ use Rattle.report.specs.Answer.{Verdict, reported, refused, Said, noStre
 use Rattle.report.specs.declared.Stretch.{Stretch}
 use Rattle.report.specs.declared.Reported.{Reported}
 use Rattle.report.specs.declared.Reported.the-variants.{Stretches, Refused}
-use Rattle.report.proofs.ForChecker.{clear-plan, plan-clear}
+use Rattle.checker.proofs.Verdicts.{clear-plan, plan-clear}
 use Rattle.report.proofs.Judging.{collision-refused}
 use Rattle.report.proofs.Stretches.{exactly-longest, none-wider, one-as-wide}
 use Rattle.report.proofs.Summed.{total-count, nothing-free}

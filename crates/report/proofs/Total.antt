@@ -16,12 +16,12 @@ use Rattle.link.specs.Slots.{uses}
 use Rattle.link.proofs.Bools.{is-false, lt-or-ge}
 use Rattle.link.proofs.Circle.{uses-true, uses-slot}
 use Rattle.link.proofs.Meeting.{start-low}
-use Rattle.link.proofs.Minimum.{some-none, some-has}
+use Rattle.link.proofs.Minimum.{some-none, some-has, some-more}
 use Rattle.report.specs.Runs.{countOf}
 use Rattle.report.specs.Free.{usedOf, freeOf, isFree}
 use Rattle.report.proofs.Counts.{count-gap, count-run, count-cong, count-or, count-not}
 use Rattle.report.proofs.Covering.{Covers, covered, outside}
-use Rattle.report.proofs.ForLink.{some-more, narrower}
+use Rattle.link.proofs.Clearness.{narrower}
 
 module _ (p t a : ℕ) (ha : a < p) (ht : t ≤ p) where
   used : (s : ℕ) → s < p → Covers p t a s → uses p t a s ≡ true

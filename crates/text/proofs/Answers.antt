@@ -16,7 +16,7 @@ use Rattle.text.specs.declared.Read.the-variants.{Table, Refused}
 use Rattle.text.specs.Lines.{line}
 use Rattle.text.specs.Faults.{linkOf, rowsOf, endOf, textFaults, lateFaults, readFaults}
 use Rattle.text.specs.Reading.{said, delaysOf, accepted, reading, wholeIf, judging}
-use Rattle.text.proofs.ForLink.{never}
+use Rattle.link.proofs.Bools.{never}
 
 broken-if : (j : Judged) (r m n p : ℕ) → Broken n p ≡ wholeIf j r m → j ≡ Fault n p
 broken-if Fine r m n p e = never cc

@@ -13,7 +13,7 @@ use Rattle.link.proofs.Bools.{and-parts, and-both}
 use Rattle.link.proofs.Minimum.{none-has, some-none}
 use Rattle.link.proofs.Faults.{inside}
 use Rattle.text.specs.Decimal.{maxDigits, naught, nine, isOther, allDigits, leadingZero, isDecimal, valueFrom, value}
-use Rattle.text.proofs.ForLink.{within}
+use Rattle.link.proofs.Accepted.{within}
 
 abbrev pub Digits : List ℕ → Type 0
 Digits bs = (i : ℕ) → i < length bs → isOther (getD bs i 0) ≡ false

@@ -18,7 +18,7 @@ use Rattle.text.specs.Decimal.{isDecimal, value}
 use Rattle.text.specs.Faults.{isPair, linkOf, isLast, countPart, titleFaults, pairFaults, rowFaults}
 use Rattle.text.specs.Faults.{lastFaults}
 use Rattle.text.proofs.LineForms.{moved, placed}
-use Rattle.text.proofs.ForLink.{never}
+use Rattle.link.proofs.Bools.{never}
 
 -- a row, and the last line after n rows
 pub record GoodRow (l : List ℕ) : Type 0 where

@@ -1,5 +1,4 @@
 -- Laws that belong to no one function.
-pub mod ForLink
 pub mod Decimals
 pub mod LineForms
 pub mod GoodLines

@@ -18,7 +18,7 @@ use Rattle.link.proofs.Faults.{below, pass}
 use mathlib.Core.Logic.{⊎-elim}
 use Rattle.text.specs.Bytes.{space, seek, same, begins, endWord}
 use Rattle.text.specs.Decimal.{maxDigits, isDecimal, value}
-use Rattle.text.proofs.ForLink.{tail-part}
+use Rattle.link.proofs.Filling.{tail-part}
 use Rattle.text.specs.Faults.{firstPart, secondPart, isPair, linkOf, isLast, countPart, placedAt}
 use Rattle.text.specs.Faults.{titleFaults, pairFaults, lastFaults, rowFaults, ownFaults}
 

@@ -16,7 +16,7 @@ use Rattle.text.specs.Bytes.{newline, seek}
 use Rattle.text.specs.Lines.{nextLine, begin, lineFrom, endedFrom, line}
 use Rattle.text.specs.Faults.{isLast, ownFaults}
 use Rattle.text.specs.Steps.{lineIf, lineSays}
-use Rattle.text.proofs.ForLink.{middle-part}
+use Rattle.link.proofs.Filling.{middle-part}
 
 module _ (x : List ℕ) (at : ℕ) where
   whole-line : at + seek newline (drop at x) < length x → endedFrom x at ≡ true

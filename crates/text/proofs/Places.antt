@@ -17,7 +17,7 @@ use Rattle.text.specs.Faults.{placedAt, isLast, titleFaults, pairFaults,
 use Rattle.text.specs.Faults.{rowsOf, textFaults, endOf, lateFaults, readFaults}
 use Rattle.text.specs.Reading.{table, refusal, says, Outcome, gives, unless, accepted, reading}
 use Rattle.text.proofs.Walk.{not-cut, ended-low}
-use Rattle.text.proofs.ForLink.{never}
+use Rattle.link.proofs.Bools.{never}
 
 -- a number of the table of refusals that a text can get, and a place
 pub record Numbered (number place limit : ℕ) : Type 0 where

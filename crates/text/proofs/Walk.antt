@@ -24,7 +24,7 @@ use Rattle.text.specs.Lines.{nextLine, begin, endedFrom, line, ended}
 use Rattle.text.specs.Faults.{isLast, ownFaults, lineFaults, linesFaults, rowsOf, textFaults, endOf}
 use Rattle.text.specs.Reading.{judging}
 use Rattle.text.specs.Steps.{lineIf, lineSays}
-use Rattle.text.proofs.ForLink.{never}
+use Rattle.link.proofs.Bools.{never}
 use Rattle.text.proofs.GoodLines.{row-parts}
 
 -- what a line's answer tells
