@@ -11,10 +11,23 @@ use Rattle.text.specs.Decimal as decimal
 use Rattle.text.specs.Faults as faults
 use Rattle.text.specs.Lines as lines
 use Rattle.text.specs.Reading as reading
-use Rattle.text.specs.Writing.{digitsIn}
-use Rattle.console.specs.Printed.{noneLine, foundLines, refusedLine, offsetLines, planned, printed}
+use Rattle.search.specs.Answer as search
+use Rattle.search.specs.Builds as builds
+use Rattle.search.specs.Ceilings as ceilings
+use Rattle.search.specs.Steps as steps
+use Rattle.console.specs.Printed.{foundLines, refusedLine, planned, printed}
 
--- `pma 1`, `10 2`, `0`, `3`, `7`, `end 3` with the byte between 3 and 7 lost
+-- `pma 1`, `10 2`, `0`, `3`, `7`, `end 3`, one a line; and the same with the byte between 3 and 7 lost
+abbrev whole : List ℕ
+whole =
+    112 ∷ 109 ∷ 97 ∷ 32 ∷ 49 ∷ 10
+    ∷ 49 ∷ 48 ∷ 32 ∷ 50 ∷ 10
+    ∷ 48 ∷ 10
+    ∷ 51 ∷ 10
+    ∷ 55 ∷ 10
+    ∷ 101 ∷ 110 ∷ 100 ∷ 32 ∷ 51 ∷ 10
+    ∷ []
+
 abbrev damaged : List ℕ
 damaged =
     112 ∷ 109 ∷ 97 ∷ 32 ∷ 49 ∷ 10
@@ -24,11 +37,25 @@ damaged =
     ∷ 101 ∷ 110 ∷ 100 ∷ 32 ∷ 51 ∷ 10
     ∷ []
 
--- `refused 9 16`
+-- "prints the four lines `found 3`, `0`, `2`, `5`"
+pub finds : printed whole ≡ foundLines 3 (0 ∷ 2 ∷ 5 ∷ [])
+unfolding printed reading.reading reading.accepted reading.delaysOf faults.readFaults faults.lateFaults faults.textFaults
+    faults.linesFaults faults.lineFaults faults.ownFaults faults.titleFaults faults.pairFaults faults.rowFaults faults.lastFaults
+    faults.placedAt faults.firstPart faults.secondPart faults.isPair faults.linkOf faults.isLast faults.countPart faults.rowsOf
+    faults.endOf lines.nextLine lines.begin lines.lineFrom lines.endedFrom bytes.seek bytes.same bytes.begins decimal.isOther
+    decimal.allDigits decimal.leadingZero decimal.isDecimal decimal.valueFrom first outside andThen linkFaults least oneMore
+    planned rowFaults roomFaults exactFaults search.within search.outcome search.exactly
+    builds.order builds.orderSteps builds.behind builds.sequences builds.leads builds.allGood builds.isWhole builds.firstOf
+    builds.count builds.counted builds.leastBuild ceilings.product ceilings.products ceilings.choices ceilings.ceilingOf
+    ceilings.ceilingUpTo steps.placed steps.from steps.besides steps.rowSteps steps.steps steps.after steps.offsetOf steps.puts
+    steps.inTheWay steps.good steps.put second start hits either meets uses
+finds = refl
+
+-- "With the newline between 3 and 7 lost it prints `refused 9 16`."
 pub refuses : printed damaged ≡ refusedLine 9 16
 unfolding printed reading.reading reading.accepted reading.delaysOf faults.readFaults faults.lateFaults faults.textFaults
     faults.linesFaults faults.lineFaults faults.ownFaults faults.titleFaults faults.pairFaults faults.rowFaults faults.lastFaults
     faults.placedAt faults.firstPart faults.secondPart faults.isPair faults.linkOf faults.isLast faults.countPart faults.rowsOf
     faults.endOf lines.nextLine lines.begin lines.lineFrom lines.endedFrom bytes.seek bytes.same bytes.begins decimal.isOther
-    decimal.allDigits decimal.leadingZero decimal.isDecimal decimal.valueFrom first outside andThen linkFaults least oneMore refusedLine
+    decimal.allDigits decimal.leadingZero decimal.isDecimal decimal.valueFrom first outside andThen linkFaults least oneMore
 refuses = refl
