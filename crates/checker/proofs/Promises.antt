@@ -45,7 +45,8 @@ module _ (k : Link) (ds os : List ℕ) (r : Checked) (e : said r ≡ answer k ds
     where
       there : r ≡ Clearly → GoodPlan k ds os × Clear (k .period) (spanOf k) ds os
       there c =
-          let w = clear-told (k .period) (spanOf k) ds os (first (planFaults k ds os)) _ (naming (k .period) (spanOf k) ds os) (sym (ap said c) ∙ e) in
+          let w = clear-told (k .period) (spanOf k) ds os (first (planFaults k ds os)) _ (naming (k .period) (spanOf k) ds os)
+          (sym (ap said c) ∙ e) in
           let g = good-plan k ds os (w .0) in
           (g, clear-rows (k .period) (spanOf k) ds os (g .table .period-low) (λ j l. not-false _ (w .1 j l)))
 
@@ -56,6 +57,7 @@ module _ (k : Link) (ds os : List ℕ) (r : Checked) (e : said r ≡ answer k ds
   pub collision-is-first : (i j n : ℕ) → r ≡ Collision i j n → GoodPlan k ds os × FirstCollision (k .period) (spanOf k) ds os i j n
   unfolding answer said
   collision-is-first i j n c =
-      let w = collision-told (k .period) (spanOf k) ds os (first (planFaults k ds os)) _ i j n (naming (k .period) (spanOf k) ds os) (sym (ap said c) ∙ e) in
+      let w = collision-told (k .period) (spanOf k) ds os (first (planFaults k ds os)) _ i j n (naming (k .period) (spanOf k) ds os)
+      (sym (ap said c) ∙ e) in
       let g = good-plan k ds os (w .0) in
       (g, first-collision (k .period) (spanOf k) ds os i j n (w .1) (g .table .period-low))

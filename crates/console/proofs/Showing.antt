@@ -40,7 +40,8 @@ module _ (k : Link) (ds : List ℕ) (budget : ℕ) (r : Answer) (new : List ℕ)
       → shown (gives (said s) new) (length ds) ≡ planned k ds (length ds)
   unfolding planned
   planned-as s e b =
-      as-shown (exactly k ds (ceilingUpTo (length ds)) blank) (said s) new (length ds) (sym (ap said e) ∙ rw b at (a .told)) (rw b at (a .left))
+      as-shown (exactly k ds (ceilingUpTo (length ds)) blank) (said s) new (length ds) (sym (ap said e) ∙ rw b at (a .told))
+      (rw b at (a .left))
 
   -- a plan is for few rows
   pub plan-few : (t : ℕ) → r ≡ Plan t → length ds ≤ maxExactRows

@@ -57,7 +57,8 @@ module _ (n : ℕ) (ds : List ℕ) (k rest : ℕ) (s : Spelling n ds (suc k) res
         high = omega (arith, s .high);
         size = length-set ds k (48 + rest % 10) ∙ s .size;
         small = div-lt-iff-lt-mul {k = 10} {x = rest} {y = 10 ^ k} (omega arith) .1 (subst (λ (m : ℕ). rest < m) (pow-suc 10 k) (s .small));
-        digits = s .digits ∙ rw (more-digits k rest h, written) (append-assoc (digitsIn k (rest / 10)) ((48 + rest % 10) ∷ []) (drop (suc k) ds));
+        digits = s .digits ∙ rw (more-digits k rest h, written)
+            (append-assoc (digitsIn k (rest / 10)) ((48 + rest % 10) ∷ []) (drop (suc k) ds));
       }
 
 -- no number has more

@@ -147,7 +147,8 @@ uses-slot p l a s e = (least (λ k. eqb ((a + k) % p) s) l, ltb-true _ _ e, eqb-
 pub meets-true : (p l a b : ℕ) → 0 < p → Meet p l a b → meets p l a b ≡ true
 unfolding meets
 meets-true p l a b h m =
-    some-at _ p (m .0) (subst (λ (x : ℕ). x < p) (m .1 .2) (mod-lt _ h)) (and-both _ _ (uses-true p l a (m .0) (m .1)) (uses-true p l b (m .0) (m .2)))
+    some-at _ p (m .0) (subst (λ (x : ℕ). x < p) (m .1 .2) (mod-lt _ h))
+    (and-both _ _ (uses-true p l a (m .0) (m .1)) (uses-true p l b (m .0) (m .2)))
 
 pub meets-slot : (p l a b : ℕ) → meets p l a b ≡ true → Meet p l a b
 unfolding meets

@@ -84,7 +84,8 @@ module _
             xs-length = length-set xs j (c * step) ∙ s .xs-length;
             ys-length = length-set ys j b ∙ s .ys-length;
             done = rw (add-one, s .done, take-suc-set xs j (c * step) room, lt-ltb _ count (subst (λ (x : ℕ). x < count) least-free h), ← least-free);
-            low = below-more _ j (λ i q. rw (other xs (c * step) i q) (s .low i q)) (rw (getD-set-same xs j (c * step) 0 room) (at-low c h));
+            low = below-more _ j (λ i q. rw (other xs (c * step) i q) (s .low i q))
+                (rw (getD-set-same xs j (c * step) 0 room) (at-low c h));
             seconds =
                 below-more _ j (λ i q. rw (other xs (c * step) i q, other ys b i q) (s .seconds i q))
                 (rw (getD-set-same xs j (c * step) 0 room, getD-set-same ys j b 0 (omega (arith, s .ys-length))) f);

@@ -67,7 +67,8 @@ module _ (k : Link) (ds old : List ℕ) (step count : ℕ) (r : Planned) (new : 
   -- each row of a plan has the least free one of the planner's offsets, and the plan is clear
   pub plan-is-right : r ≡ Plan → GivenPlan k ds old step count new
   unfolding quick outcome said
-  plan-is-right c = go (first (plannerFaults k ds (length old))) refl (placed (k .period) (spanOf k) ds step count (length ds)) (told (k .period) (spanOf k) ds step count (length ds)) (rw c at e)
+  plan-is-right c = go (first (plannerFaults k ds (length old))) refl (placed (k .period) (spanOf k) ds step count (length ds))
+      (told (k .period) (spanOf k) ds step count (length ds)) (rw c at e)
     where
       go : (f : Judged) → first (plannerFaults k ds (length old)) ≡ f → (o : Progress)
           → Says (k .period) (spanOf k) ds step count (length ds) o → gives (says plan 0 0) new ≡ unless f old (outcome o old)
@@ -103,7 +104,8 @@ module _ (k : Link) (ds old : List ℕ) (step count : ℕ) (r : Planned) (new : 
           rw same (record { table = good .0; room = good .1; row = h; stuck = s })
 
       there : r ≡ Refused noOffset j → NoOffset k ds old step count j
-      there c = go (first (plannerFaults k ds (length old))) refl (placed (k .period) (spanOf k) ds step count (length ds)) (told (k .period) (spanOf k) ds step count (length ds)) (rw c at e)
+      there c = go (first (plannerFaults k ds (length old))) refl (placed (k .period) (spanOf k) ds step count (length ds))
+          (told (k .period) (spanOf k) ds step count (length ds)) (rw c at e)
 
       back : NoOffset k ds old step count j → r ≡ Refused noOffset j
       back w =

@@ -23,7 +23,8 @@ planned o r s new ns e f g = arm plannedAs (λ t. quick.gives (quick.said t) new
 
 pub searched : (o : search.Outcome) (r s : Answer) (new ns : List ℕ) → search.said r ≡ o .says → new ≡ o .leaves → r ≡ s
     → ns ≡ (search.said s .number ∷ search.said s .place ∷ search.said s .tests ∷ []) → left ns new ≡ searchedAs o
-searched o r s new ns e l f g = arm searchedAs (λ t. search.gives (search.said t) new) o r s (rw (e, l)) f (ap (λ (xs : List ℕ). left xs new) g)
+searched o r s new ns e l f g = arm searchedAs (λ t. search.gives (search.said t) new) o r s (rw (e, l)) f
+    (ap (λ (xs : List ℕ). left xs new) g)
 
 pub read : (o : text.Outcome) (r s : Read) (new ns : List ℕ) → text.said r ≡ o .says → new ≡ o .leaves → r ≡ s
     → ns ≡ (text.said s .number ∷ text.said s .place ∷ text.said s .period ∷ text.said s .size ∷ text.said s .rows ∷ [])
@@ -40,4 +41,5 @@ pub filed : (o : planfile.ReadGives) (r s : PlanRead) (ds os ns : List ℕ) → 
     → os ≡ o .offsets → r ≡ s
     → ns ≡ (planfile.readSaid s .number ∷ planfile.readSaid s .place ∷ planfile.readSaid s .period ∷ planfile.readSaid s .size ∷ planfile.readSaid s .rows ∷ []) → leftTwo ns ds os ≡ fileAs o
 filed o r s ds os ns e d l f g =
-    arm fileAs (λ t. record { says = planfile.readSaid t; delays = ds; offsets = os }) o r s (rw (e, d, l)) f (ap (λ (xs : List ℕ). leftTwo xs ds os) g)
+    arm fileAs (λ t. record { says = planfile.readSaid t; delays = ds; offsets = os }) o r s (rw (e, d, l)) f
+    (ap (λ (xs : List ℕ). leftTwo xs ds os) g)

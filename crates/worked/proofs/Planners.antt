@@ -36,7 +36,8 @@ module _ (k : Link) (ds old new : List ℕ) where
   -- where First Fit has a plan the exact planner never says "none", at any budget; and so for Meta-Offset
   pub first-fit-never-none : gives (said Plan) new ≡ quick k ds old 1 (k .period) → (budget : ℕ) (list : List ℕ) (t : ℕ) (left : List ℕ)
       → Answers k ds budget list (None t) left → ⊥
-  first-fit-never-none e = let g = plan-is-right k ds old 1 (k .period) Plan new e refl in never-none k ds old 1 (k .period) new g (each-offset k ds (g .table))
+  first-fit-never-none e = let g = plan-is-right k ds old 1 (k .period) Plan new e refl in never-none k ds old 1 (k .period) new g
+      (each-offset k ds (g .table))
 
   pub meta-offset-never-none : gives (said Plan) new ≡ quick k ds old (spanOf k) (k .period / spanOf k)
       → (budget : ℕ) (list : List ℕ) (t : ℕ) (left : List ℕ) → Answers k ds budget list (None t) left → ⊥

@@ -59,7 +59,8 @@ returns c =
     let u = l .before .before .before in
     let at-second-start = c .before .before .before .before .before .before .second-start in
     let at-first-met = c .before .before .before .first-met in
-    stops _ _ _ _ _ _ _ _ (u .pre) (l .loop .inv) (omega arith) (at-second-start .ensures) (at-first-met .ensures) _ _ (c .before .row .given .1)
+    stops _ _ _ _ _ _ _ _ (u .pre) (l .loop .inv) (omega arith) (at-second-start .ensures) (at-first-met .ensures) _ _
+    (c .before .row .given .1)
 
 enum-told : tie.Need-enum-told Inv-loop μ-loop
 enum-told c = search needs
@@ -81,7 +82,8 @@ loop-again c =
     let l = c .before .before .before .before .before .before .before .before .before in
     let u = l .before .before .before in
     let at-second-start = c .before .before .before .before .before .second-start in
-    goes-on _ _ _ _ _ _ _ _ (u .pre) (l .loop .inv) (omega arith) (at-second-start .ensures) (c .before .before .first-met .ensures) (c .enum-told .given .1)
+    goes-on _ _ _ _ _ _ _ _ (u .pre) (l .loop .inv) (omega arith) (at-second-start .ensures) (c .before .before .first-met .ensures)
+    (c .enum-told .given .1)
 
 returns-2 : tie.Need-returns-2 Inv-loop μ-loop
 unfolding said

@@ -60,7 +60,8 @@ returns c =
     let u = c .before .before .before .before .args in
     let l = c .before .loop in
     let all : l .i ≡ length (u .offsets .now) = omega arith in
-    subst (λ (xs : List ℕ). Adds (u .out .now) (u .from) (offsetLines xs) (l .at) (l .out)) (rw all (take-length (u .offsets .now))) (l .inv .3)
+    subst (λ (xs : List ℕ). Adds (u .out .now) (u .from) (offsetLines xs) (l .at) (l .out)) (rw all (take-length (u .offsets .now)))
+    (l .inv .3)
 
 pub offset-lines-spec : {M : Type 1} → statement M
 offset-lines-spec =

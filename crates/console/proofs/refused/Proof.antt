@@ -49,11 +49,13 @@ returns c =
     let short = number-short (u .number) in
     let one : 0 + length refusedWord ≤ length (u .out .now) = omega arith in
     let two = and-then (u .out .now) 0 refusedWord one _ _ (w .ensures) _ _ _ (d .ensures .0) in
-    let fits₂ : 0 + length (refusedWord ++ number (u .number)) ≤ length (u .out .now) = rw (length-append refusedWord (number (u .number))) (omega arith) in
+    let fits₂ : 0 + length (refusedWord ++ number (u .number)) ≤ length (u .out .now) = rw
+    (length-append refusedWord (number (u .number))) (omega arith) in
     let three = and-then (u .out .now) 0 (refusedWord ++ number (u .number)) fits₂ _ _ two _ _ _ (v .ensures) in
     let fits₃ : 0 + length ((refusedWord ++ number (u .number)) ++ (space ∷ [])) ≤ length (u .out .now) =
     rw (length-append (refusedWord ++ number (u .number)) (space ∷ []), length-append refusedWord (number (u .number))) (omega arith) in
-    and-then (u .out .now) 0 ((refusedWord ++ number (u .number)) ++ (space ∷ [])) fits₃ _ _ three _ _ _ (c .before .before .line .ensures .0)
+    and-then (u .out .now) 0 ((refusedWord ++ number (u .number)) ++ (space ∷ [])) fits₃ _ _ three _ _ _
+    (c .before .before .line .ensures .0)
 
 pub refused-spec : {M : Type 1} → statement M
 refused-spec =

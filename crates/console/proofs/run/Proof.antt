@@ -30,7 +30,8 @@ enum-known-period c = search needs
 array-share-prefix-delays : tie.Need-array-share-prefix-delays
 array-share-prefix-delays c =
     let at-read-table = c .before .before .before .before .read-table in
-    let r = at-read-table in omega (arith, rows-few _ _ _ (at-read-table .ensures .0) (at-read-table .ensures .1) _ _ _ (c .before .period .given .1), r .kept .1 .0)
+    let r = at-read-table in omega
+    (arith, rows-few _ _ _ (at-read-table .ensures .0) (at-read-table .ensures .1) _ _ _ (c .before .period .given .1), r .kept .1 .0)
 
 slice-aggregate-plan : tie.Need-slice-aggregate-plan
 slice-aggregate-plan c =

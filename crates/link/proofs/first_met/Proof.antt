@@ -12,7 +12,8 @@ use Rattle.link.proofs.first_met.Statement.{statement}
 use Rattle.link.proofs.first_met.Tie as tie
 
 abbrev Inv-loop : tie.InvT-loop
-Inv-loop period span firsts seconds a b i₀ i = (i ≤ length firsts) × ((k : ℕ) → k < i → either (near period span firsts seconds a b) k ≡ false)
+Inv-loop period span firsts seconds a b i₀ i = (i ≤ length firsts) ×
+    ((k : ℕ) → k < i → either (near period span firsts seconds a b) k ≡ false)
 
 abbrev μ-loop : tie.MeasureT-loop
 μ-loop period span firsts seconds a b i₀ i = length firsts - i

@@ -36,7 +36,8 @@ enum-told c = search needs
 returns : tie.Need-returns Inv-loop μ-loop
 returns c =
     let l = c .before .before .before .before .loop in
-    let opened = opens _ _ _ _ _ _ _ _ _ _ (l .inv .1) (l .inv .2) (c .before .before .first-met .ensures) ∙ ap isNobody (c .enum-told .given .1) in
+    let opened = opens _ _ _ _ _ _ _ _ _ _ (l .inv .1) (l .inv .2) (c .before .before .first-met .ensures) ∙ ap isNobody
+    (c .enum-told .given .1) in
     sym (least-at _ _ _ (omega arith) (l .inv .3) (λ _. opened))
 
 enum-told-2 : tie.Need-enum-told-2 Inv-loop μ-loop
@@ -55,7 +56,8 @@ turn-requires : tie.Need-turn-requires Inv-loop μ-loop
 turn-requires c κs =
     let u = c .before .before .before .before .before .before .before .before in
     let l = c .before .before .before .before .loop in
-    let low : u .args .step ≤ u .args .period = omega (arith, next-low (l .c) (u .args .count) (u .args .step) (omega arith), u .pre .0 .low) in
+    let low : u .args .step ≤ u .args .period = omega
+    (arith, next-low (l .c) (u .args .count) (u .args .step) (omega arith), u .pre .0 .low) in
     (rw (l .inv .2) (second-low _ _ _ (u .pre .0 .some-period)), low)
 
 loop-less : tie.Need-loop-less Inv-loop μ-loop

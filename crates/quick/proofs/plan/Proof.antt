@@ -14,7 +14,8 @@ use Rattle.quick.proofs.plan.Statement.{statement}
 use Rattle.quick.proofs.plan.Tie as tie
 
 abbrev Inv-loop : tie.InvT-loop
-Inv-loop period span delays offsets step count firsts₀ seconds₀ j₀ firsts seconds j = (j ≤ length delays) × State period span delays step count j firsts seconds
+Inv-loop period span delays offsets step count firsts₀ seconds₀ j₀ firsts seconds j =
+    (j ≤ length delays) × State period span delays step count j firsts seconds
 
 abbrev μ-loop : tie.MeasureT-loop
 μ-loop period span delays offsets step count firsts₀ seconds₀ j₀ firsts seconds j = length delays - j
@@ -51,7 +52,8 @@ unfolding said outcome
 returns c =
     let u = c .before .before .before .before .before .before .before .before .before in
     let l = c .before .before .before .before .before .before .loop in
-    let stuck = blocked _ _ _ _ _ (u .pre .1) (l .j) (omega arith) (l .firsts) (l .seconds) (l .inv .1) _ (c .before .first-free .ensures) (c .if1 .taken) in
+    let stuck = blocked _ _ _ _ _ (u .pre .1) (l .j) (omega arith) (l .firsts) (l .seconds) (l .inv .1) _
+    (c .before .first-free .ensures) (c .if1 .taken) in
     rw (stuck (length (u .args .delays .now)) (omega arith))
 
 mul-a : tie.Need-mul-a Inv-loop μ-loop
@@ -84,7 +86,8 @@ loop-again : tie.Need-loop-again Inv-loop μ-loop
 loop-again c =
     let u = c .before .before .before .before .before .before .before .before .before .before in
     let l = c .before .before .before .before .before .before .before .loop in
-    let more = onward _ _ _ _ _ (u .pre .1) (l .j) (omega arith) (l .firsts) (l .seconds) (l .inv .1) _ (c .before .before .first-free .ensures) in
+    let more = onward _ _ _ _ _ (u .pre .1) (l .j) (omega arith) (l .firsts) (l .seconds) (l .inv .1) _
+    (c .before .before .first-free .ensures) in
     (omega arith, more _ (c .before .if1 .left) (c .second-start .ensures))
 
 array-share-prefix-firsts-2 : tie.Need-array-share-prefix-firsts-2 Inv-loop μ-loop

@@ -34,7 +34,8 @@ returns c =
     let room = length (u .args .space .now) - u .args .held in
     let same = same-len-mid (u .args .held) room (u .args .space .now) (call .last .1 .0) (call .kept .1 .0) in
     let part : length (call .last .1 .0) ≤ room = omega (arith, simp (length-take, length-drop) at (call .kept .1 .0)) in
-    let low : u .args .held + call .result ≤ length (putMid (u .args .held) room (u .args .space .now) (call .last .1 .0)) = omega (arith, same, call .ensures .0) in
+    let low : u .args .held + call .result ≤ length (putMid (u .args .held) room (u .args .space .now) (call .last .1 .0)) = omega
+    (arith, same, call .ensures .0) in
     (low, sym (length-take-le _ _ low))
 
 pub refill-spec : {M : Type 1} → statement M

@@ -33,7 +33,8 @@ returns c =
     let u = c .before .before .before .before .before .before .before .before .before .args in
     let s = c .before .before .before .before .before .before .before .spell in
     let call = c .before .before .word in
-    let all = take-all (20 - s .result .from) (drop (s .result .from) (s .result .digits)) (simp length-drop (omega arith)) ∙ s .ensures .2 in
+    let all = take-all (20 - s .result .from) (drop (s .result .from) (s .result .digits)) (simp length-drop (omega arith))
+    ∙ s .ensures .2 in
     let put = subst (λ (w : List ℕ). Adds (u .out .now) (u .at) w (call .result) (call .last .0)) all (call .ensures) in
     (put, omega (arith, put .end, number-short (u .n)))
 
