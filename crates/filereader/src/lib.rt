@@ -1,7 +1,6 @@
 // The file reader that keeps the caller's bytes and its own place in them: a thin struct over covered functions.
 mod steps;
 
-use link::limits::MAX_ROWS;
 use planfile::Header;
 use planfile::PlanRead;
 use planfile::Taken;
@@ -61,4 +60,39 @@ pub fn read_number<'a>(r: FileReader<'a>, low: u32, high: u32, fault: u32) -> Nu
         reader: moved(r, steps::place_after(r.at, taken)),
         taken,
     }
+}
+
+// The tag, and the header at the reader's place.
+pub fn header_of<'a>(r: FileReader<'a>) -> Header
+    ensures { λ h. ⌜ (headed h ≡ tagged (now (r .entry .bytes)) (r .entry .at)) × InRange h × Bytes (now (r .entry .bytes)) ⌝ }
+{
+    steps::read_head(r.bytes, r.at)
+}
+
+// The rows from the reader's place on, and the closing, after the header.
+pub fn plan_of<'a, 'd, 'o>(
+    r: FileReader<'a>,
+    head: Header,
+    delays: &'d mut [u32],
+    offsets: &'o mut [u32],
+) -> PlanRead
+    requires { ⌜ InRange head ⌝ }
+    ensures { λ p. ⌜ readSaid p ≡ restGives (now (r .entry .bytes)) (r .entry .at) head (now (delays .entry)) (now (offsets .entry)) .says ⌝ }
+    ensures { λ p. ⌜ now (delays .exit) ≡ restGives (now (r .entry .bytes)) (r .entry .at) head (now (delays .entry)) (now (offsets .entry)) .delays ⌝ }
+    ensures { λ p. ⌜ now (offsets .exit) ≡ restGives (now (r .entry .bytes)) (r .entry .at) head (now (delays .entry)) (now (offsets .entry)) .offsets ⌝ }
+{
+    steps::read_rest(r.bytes, r.at, head, delays, offsets)
+}
+
+// Reads a plan into the fronts of the two lists, through a reader.
+pub fn read_plan_held(bytes: &[u8], delays: &mut [u32], offsets: &mut [u32]) -> PlanRead
+    ensures { λ r. ⌜ readSaid r ≡ readGives (now (bytes .entry)) (now (delays .entry)) (now (offsets .entry)) .says ⌝ }
+    ensures { λ r. ⌜ now (delays .exit) ≡ readGives (now (bytes .entry)) (now (delays .entry)) (now (offsets .entry)) .delays ⌝ }
+    ensures { λ r. ⌜ now (offsets .exit) ≡ readGives (now (bytes .entry)) (now (delays .entry)) (now (offsets .entry)) .offsets ⌝ }
+    ensures { λ r. ⌜ IsFileOf r (now (bytes .entry)) (now (delays .exit)) (now (offsets .exit)) ⌝ }
+{
+    let start = open(bytes);
+    let head = header_of(start);
+    let at_rows = moved(start, steps::rows_place(start.at, head));
+    plan_of(at_rows, head, delays, offsets)
 }

@@ -44,9 +44,7 @@ pub fn rows_place(at: usize, head: Header) -> usize
 
 // The tag, and the header at a place.
 pub fn read_head(bytes: &[u8], at: usize) -> Header
-    ensures { λ r. ⌜ headed r ≡ tagged (now (bytes .entry)) at ⌝ }
-    ensures { λ r. ⌜ InRange r ⌝ }
-    ensures { λ r. ⌜ Bytes (now (bytes .entry)) ⌝ }
+    ensures { λ r. ⌜ (headed r ≡ tagged (now (bytes .entry)) at) × InRange r × Bytes (now (bytes .entry)) ⌝ }
 {
     if !reader::begins(&TAG, bytes) {
         return Header::Refused {
