@@ -1,4 +1,5 @@
 -- What the functions below `read_plan_held` answer, over `planfile`'s definitions.
+use mathlib.Core.Path.{_≡_}
 use mathlib.Core.Bool.{cond}
 use mathlib.Core.List.{List, []}
 use Prim.Native.Nat.{ℕ, _≤_, _<_}
@@ -6,9 +7,10 @@ use Rattle.link.specs.Limits.{maxRows}
 use Rattle.planfile.specs.Causes.{wrongTag}
 use Rattle.planfile.specs.Format.{tag}
 use Rattle.planfile.specs.Reading.{Step, got, stopped, begins, Head, header, rows, Meaning, means, closing}
-use Rattle.planfile.specs.Answer.{headed, ReadGives, delivered}
+use Rattle.planfile.specs.Answer.{headed, ReadGives, readSaid, delivered}
 use Rattle.planfile.specs.declared.Header.{Header}
 use Rattle.planfile.specs.declared.Header.the-variants.{Read, Refused}
+use Rattle.planfile.specs.declared.PlanRead.{PlanRead}
 
 -- where a reader stands that was at a place: after what was read, or where it was on a refusal
 abbrev pub after : {A : Type 0} → ℕ → Step A → ℕ
@@ -33,3 +35,7 @@ rest bs at head =
 
 abbrev pub restGives : List ℕ → ℕ → Header → List ℕ → List ℕ → ReadGives
 restGives bs at head oldD oldO = delivered (rest bs at (headed head)) oldD oldO
+
+-- a reader that gives g answers r and leaves ds and os in the two lists
+abbrev pub Gives : ReadGives → PlanRead → List ℕ → List ℕ → Type 0
+Gives g r ds os = (readSaid r ≡ g .says) × (ds ≡ g .delays) × (os ≡ g .offsets)

@@ -10,8 +10,8 @@ ghost use lib.ListN.{length};
 ghost use Rattle.planfile.specs.Bytes.{Bytes};
 ghost use Rattle.planfile.specs.Format.{tag};
 ghost use Rattle.planfile.specs.Reading.{number};
-ghost use Rattle.planfile.specs.Answer.{taken, headed, readSaid, readGives, IsFileOf};
-ghost use Rattle.filereader.specs.Held.{after, tagged, InRange, restGives};
+ghost use Rattle.planfile.specs.Answer.{taken, headed, readGives, IsFileOf};
+ghost use Rattle.filereader.specs.Held.{after, tagged, InRange, restGives, Gives};
 
 pub struct FileReader<'a> {
     pub bytes: &'a [u8],
@@ -77,19 +77,14 @@ pub fn plan_of<'a, 'd, 'o>(
     offsets: &'o mut [u32],
 ) -> PlanRead
     requires { ⌜ InRange head ⌝ }
-    ensures { λ p. ⌜ readSaid p ≡ restGives (now (r .entry .bytes)) (r .entry .at) head (now (delays .entry)) (now (offsets .entry)) .says ⌝ }
-    ensures { λ p. ⌜ now (delays .exit) ≡ restGives (now (r .entry .bytes)) (r .entry .at) head (now (delays .entry)) (now (offsets .entry)) .delays ⌝ }
-    ensures { λ p. ⌜ now (offsets .exit) ≡ restGives (now (r .entry .bytes)) (r .entry .at) head (now (delays .entry)) (now (offsets .entry)) .offsets ⌝ }
+    ensures { λ p. ⌜ Gives (restGives (now (r .entry .bytes)) (r .entry .at) head (now (delays .entry)) (now (offsets .entry))) p (now (delays .exit)) (now (offsets .exit)) ⌝ }
 {
     steps::read_rest(r.bytes, r.at, head, delays, offsets)
 }
 
 // Reads a plan into the fronts of the two lists, through a reader.
 pub fn read_plan_held(bytes: &[u8], delays: &mut [u32], offsets: &mut [u32]) -> PlanRead
-    ensures { λ r. ⌜ readSaid r ≡ readGives (now (bytes .entry)) (now (delays .entry)) (now (offsets .entry)) .says ⌝ }
-    ensures { λ r. ⌜ now (delays .exit) ≡ readGives (now (bytes .entry)) (now (delays .entry)) (now (offsets .entry)) .delays ⌝ }
-    ensures { λ r. ⌜ now (offsets .exit) ≡ readGives (now (bytes .entry)) (now (delays .entry)) (now (offsets .entry)) .offsets ⌝ }
-    ensures { λ r. ⌜ IsFileOf r (now (bytes .entry)) (now (delays .exit)) (now (offsets .exit)) ⌝ }
+    ensures { λ r. ⌜ Gives (readGives (now (bytes .entry)) (now (delays .entry)) (now (offsets .entry))) r (now (delays .exit)) (now (offsets .exit)) × IsFileOf r (now (bytes .entry)) (now (delays .exit)) (now (offsets .exit)) ⌝ }
 {
     let start = open(bytes);
     let head = header_of(start);

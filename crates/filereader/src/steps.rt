@@ -9,8 +9,8 @@ use planfile::reader;
 use link::limits::MAX_ROWS;
 ghost use mathlib.Core.Path.{_≡_};
 ghost use Rattle.planfile.specs.Bytes.{Bytes};
-ghost use Rattle.planfile.specs.Answer.{taken, headed, readSaid};
-ghost use Rattle.filereader.specs.Held.{after, tagged, InRange, restGives};
+ghost use Rattle.planfile.specs.Answer.{taken, headed};
+ghost use Rattle.filereader.specs.Held.{after, tagged, InRange, restGives, Gives};
 
 // Where a reader stands after a number was read, or refused.
 pub fn place_after(at: usize, got: Taken) -> usize
@@ -64,9 +64,7 @@ pub fn read_rest(
     offsets: &mut [u32],
 ) -> PlanRead
     requires { ⌜ InRange head ⌝ }
-    ensures { λ r. ⌜ readSaid r ≡ restGives (now (bytes .entry)) at head (now (delays .entry)) (now (offsets .entry)) .says ⌝ }
-    ensures { λ r. ⌜ now (delays .exit) ≡ restGives (now (bytes .entry)) at head (now (delays .entry)) (now (offsets .entry)) .delays ⌝ }
-    ensures { λ r. ⌜ now (offsets .exit) ≡ restGives (now (bytes .entry)) at head (now (delays .entry)) (now (offsets .entry)) .offsets ⌝ }
+    ensures { λ r. ⌜ Gives (restGives (now (bytes .entry)) at head (now (delays .entry)) (now (offsets .entry))) r (now (delays .exit)) (now (offsets .exit)) ⌝ }
 {
     let mut ds = [0u32; MAX_ROWS];
     let mut os = [0u32; MAX_ROWS];

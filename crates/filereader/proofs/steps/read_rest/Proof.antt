@@ -62,7 +62,7 @@ close-requires c κs = search needs
 
 returns : tie.Need-returns
 unfolding readSaid
-returns c = rw (head-refused _ _ _ _ _ _ _ (c .before .head .given .1)) (refl, (refl, refl))
+returns c = rw (head-refused _ _ _ _ _ _ _ (c .before .head .given .1)) (refl, refl, refl)
 
 returns-2 : tie.Need-returns-2
 unfolding readSaid
@@ -71,7 +71,7 @@ returns-2 c =
     let h = r .before .before .before .before in
     rw (bad-rows _ _ _ _ _ _ _ _ (h .head2 .given .1) _ _
     (rows-refused _ _ _ _ (r .read-rows .ensures) _ _ (c .before .number .given .1)))
-    (refl, (refl, refl))
+    (refl, refl, refl)
 
 same-length : tie.Need-same-length
 same-length c = search needs
@@ -85,7 +85,7 @@ returns-3 c =
     let r = e .before .before .before .before in
     let h = r .before .before .before .before in
     rw (all-rows _ _ _ _ _ _ _ _ (h .head2 .given .1) _ _ _ (rows-ended _ _ _ _ (r .read-rows .ensures) _ (e .end .given .1)))
-    (c .before .before .before .before .close .ensures)
+    (let closed = c .before .before .before .before .close .ensures in (closed .0, closed .1 .0, closed .1 .1))
 
 pub read-rest-spec : {M : Type 1} → statement M
 read-rest-spec =
