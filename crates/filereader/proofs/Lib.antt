@@ -1,2 +1,4 @@
 -- Laws that belong to no one function.
+pub mod Clauses
 pub mod Reading
+pub mod Promises

@@ -10,7 +10,7 @@ ghost use lib.ListN.{length};
 ghost use Rattle.planfile.specs.Bytes.{Bytes};
 ghost use Rattle.planfile.specs.Format.{tag};
 ghost use Rattle.planfile.specs.Reading.{number};
-ghost use Rattle.planfile.specs.Answer.{taken, headed, readGives, IsFileOf};
+ghost use Rattle.planfile.specs.Answer.{taken, headed, readSaid, readGives, IsFileOf};
 ghost use Rattle.filereader.specs.Held.{after, tagged, InRange, restGives, Gives};
 
 pub struct FileReader<'a> {
@@ -45,7 +45,7 @@ pub fn moved<'a>(r: FileReader<'a>, at: usize) -> FileReader<'a>
 }
 
 // The number at the reader's place, or the refusal.
-pub fn number_of<'a>(r: FileReader<'a>, low: u32, high: u32, fault: u32) -> Taken
+fn number_of<'a>(r: FileReader<'a>, low: u32, high: u32, fault: u32) -> Taken
     ensures { λ t. ⌜ taken t ≡ number (now (r .entry .bytes)) (r .entry .at) low high fault ⌝ }
 {
     reader::take_number(r.bytes, r.at, low, high, fault)
@@ -63,14 +63,14 @@ pub fn read_number<'a>(r: FileReader<'a>, low: u32, high: u32, fault: u32) -> Nu
 }
 
 // The tag, and the header at the reader's place.
-pub fn header_of<'a>(r: FileReader<'a>) -> Header
+fn header_of<'a>(r: FileReader<'a>) -> Header
     ensures { λ h. ⌜ (headed h ≡ tagged (now (r .entry .bytes)) (r .entry .at)) × InRange h × Bytes (now (r .entry .bytes)) ⌝ }
 {
     steps::read_head(r.bytes, r.at)
 }
 
 // The rows from the reader's place on, and the closing, after the header.
-pub fn plan_of<'a, 'd, 'o>(
+fn plan_of<'a, 'd, 'o>(
     r: FileReader<'a>,
     head: Header,
     delays: &'d mut [u32],
@@ -84,7 +84,10 @@ pub fn plan_of<'a, 'd, 'o>(
 
 // Reads a plan into the fronts of the two lists, through a reader.
 pub fn read_plan_held(bytes: &[u8], delays: &mut [u32], offsets: &mut [u32]) -> PlanRead
-    ensures { λ r. ⌜ Gives (readGives (now (bytes .entry)) (now (delays .entry)) (now (offsets .entry))) r (now (delays .exit)) (now (offsets .exit)) × IsFileOf r (now (bytes .entry)) (now (delays .exit)) (now (offsets .exit)) ⌝ }
+    ensures { λ r. ⌜ readSaid r ≡ readGives (now (bytes .entry)) (now (delays .entry)) (now (offsets .entry)) .says ⌝ }
+    ensures { λ r. ⌜ now (delays .exit) ≡ readGives (now (bytes .entry)) (now (delays .entry)) (now (offsets .entry)) .delays ⌝ }
+    ensures { λ r. ⌜ now (offsets .exit) ≡ readGives (now (bytes .entry)) (now (delays .entry)) (now (offsets .entry)) .offsets ⌝ }
+    ensures { λ r. ⌜ IsFileOf r (now (bytes .entry)) (now (delays .exit)) (now (offsets .exit)) ⌝ }
 {
     let start = open(bytes);
     let head = header_of(start);

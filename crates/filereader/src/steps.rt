@@ -1,4 +1,5 @@
 // The covered functions under the reader, over a plain slice and a place in it.
+use link::limits::MAX_ROWS;
 use planfile::Header;
 use planfile::PlanRead;
 use planfile::RowsRead;
@@ -6,7 +7,6 @@ use planfile::TAG;
 use planfile::Taken;
 use planfile::causes::WRONG_TAG;
 use planfile::reader;
-use link::limits::MAX_ROWS;
 ghost use mathlib.Core.Path.{_≡_};
 ghost use Rattle.planfile.specs.Bytes.{Bytes};
 ghost use Rattle.planfile.specs.Answer.{taken, headed};

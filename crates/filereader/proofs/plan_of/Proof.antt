@@ -70,9 +70,16 @@ abbrev B : Lfts 3 → RattleType
 B κs = T.the-row (namedLft 3 0 tt κs)
 
 abbrev stayed : Stays (f.ended .signature .params) (f.ended .kept)
-stayed =
-    (stay-none B yes, (stay-none (λ _. Hd.the-row) yes, (gave-slice (1 ∷ []) tt (plain (λ _. u32)),
-    (gave-slice (2 ∷ []) tt (plain (λ _. u32)), tt))))
+stayed = (
+  stay-none B yes,
+  (
+    stay-none (λ _. Hd.the-row) yes,
+    (
+      gave-slice (1 ∷ []) tt (plain (λ _. u32)),
+      (gave-slice (2 ∷ []) tt (plain (λ _. u32)), tt),
+    ),
+  ),
+)
 
 -- the last values of what `read_rest` is passed: of the two lists alone
 abbrev Lists : Type 0
@@ -229,8 +236,13 @@ module _ {M : Type 1} (𝓤 : URA M) (H : Heap 𝓤) (A : Atoms 𝓤) (W : Given
   plan-of-walks =
       walked 𝓤 H A f.ended stayed (f.clauses 𝓤 H A mem run) (WpFn 𝓤 H (𝓣 .C) (𝓣 .Λ) code.function)
       (λ κs. (LL.vals (T.the-type (namedLft 3 0 tt κs)) (T′.the-laws (namedLft 3 0 tt κs)), (EL.vals Hd.the-type Hd′.the-laws, (slice-vals, (slice-vals, tt)))))
-      (λ κs. (LL.tells (T.the-type (namedLft 3 0 tt κs)) (T′.the-laws (namedLft 3 0 tt κs)), (EL.tells Hd.the-type Hd′.the-laws,
-      (mut-slice-tells (named 1) (κs .1 .0) u32, (mut-slice-tells (named 2) (κs .1 .1 .0) u32, tt)))))
+      (λ κs. (
+        LL.tells (T.the-type (namedLft 3 0 tt κs)) (T′.the-laws (namedLft 3 0 tt κs)),
+        (
+          EL.tells Hd.the-type Hd′.the-laws,
+          (mut-slice-tells (named 1) (κs .1 .0) u32, (mut-slice-tells (named 2) (κs .1 .1 .0) u32, tt)),
+        ),
+      ))
       (λ κs qs bounds a g are. needs 𝓤 (InRange (a .1 .0)) _ (λ ok.
       walk 𝓤 H A W mem run κs (qs .0) (qs .1 .0) (qs .1 .1 .0) (a .0) (a .1 .0)
       (a .1 .1 .0 .ptr .0) (a .1 .1 .0 .ptr .1) (a .1 .1 .0 .name) (a .1 .1 .0 .now)
@@ -241,9 +253,13 @@ module _ {M : Type 1} (𝓤 : URA M) (H : Heap 𝓤) (A : Atoms 𝓤) (W : Given
 
   plan-of-meets : Meets 𝓤 H A f.signature (WpFn 𝓤 H (𝓣 .C) (𝓣 .Λ) code.function) (f.spec 𝓤 H A mem run)
   plan-of-meets =
-      walk-meets 𝓤 H A f.ended stayed W
-      (goes-none 𝓤 H A W 3 B yes (λ κs x f. refl), (goes-none 𝓤 H A W 3 (λ _. Hd.the-row) yes (λ κs x f. refl),
-      (goes-gave-slice 𝓤 H A W 3 1 tt (plain (λ _. u32)), (goes-gave-slice 𝓤 H A W 3 2 tt (plain (λ _. u32)), tt))))
+      walk-meets 𝓤 H A f.ended stayed W (
+        goes-none 𝓤 H A W 3 B yes (λ κs x f. refl),
+        (
+          goes-none 𝓤 H A W 3 (λ _. Hd.the-row) yes (λ κs x f. refl),
+          (goes-gave-slice 𝓤 H A W 3 1 tt (plain (λ _. u32)), (goes-gave-slice 𝓤 H A W 3 2 tt (plain (λ _. u32)), tt)),
+        ),
+      )
       (f.clauses 𝓤 H A mem run) (WpFn 𝓤 H (𝓣 .C) (𝓣 .Λ) code.function) (WpFn-mono 𝓤 H (W .laws) 𝓣 code.function) plan-of-walks
 
 pub plan-of-spec : {M : Type 1} → stated.statement M

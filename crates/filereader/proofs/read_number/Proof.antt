@@ -259,9 +259,13 @@ module _ {M : Type 1} (𝓤 : URA M) (H : Heap 𝓤) (A : Atoms 𝓤) (W : Given
 
   read-number-meets : Meets 𝓤 H A f.signature (WpFn 𝓤 H (𝓣 .C) (𝓣 .Λ) code.function) (f.spec 𝓤 H A mem run)
   read-number-meets =
-      walk-meets 𝓤 H A f.ended stayed W
-      (goes-none 𝓤 H A W 1 B yes (λ κs x f. refl), (goes-none 𝓤 H A W 1 (λ _. u32) yes (λ κs x f. refl),
-      (goes-none 𝓤 H A W 1 (λ _. u32) yes (λ κs x f. refl), (goes-none 𝓤 H A W 1 (λ _. u32) yes (λ κs x f. refl), tt))))
+      walk-meets 𝓤 H A f.ended stayed W (
+        goes-none 𝓤 H A W 1 B yes (λ κs x f. refl),
+        (
+          goes-none 𝓤 H A W 1 (λ _. u32) yes (λ κs x f. refl),
+          (goes-none 𝓤 H A W 1 (λ _. u32) yes (λ κs x f. refl), (goes-none 𝓤 H A W 1 (λ _. u32) yes (λ κs x f. refl), tt)),
+        ),
+      )
       (f.clauses 𝓤 H A mem run) (WpFn 𝓤 H (𝓣 .C) (𝓣 .Λ) code.function) (WpFn-mono 𝓤 H (W .laws) 𝓣 code.function) read-number-walks
 
 pub read-number-spec : {M : Type 1} → stated.statement M

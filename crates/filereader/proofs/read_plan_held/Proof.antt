@@ -56,6 +56,7 @@ use Rattle.planfile.proofs.PlanRead as P
 use Rattle.planfile.proofs.PlanRead.Laws as P′
 use Rattle.filereader.specs.Held.{after, tagged, InRange, restGives, Gives}
 use Rattle.filereader.specs.declared.FileReader.{FileReader}
+use Rattle.filereader.proofs.Clauses.{one, and, shown}
 use Rattle.filereader.proofs.Reading.{as-read}
 use Rattle.filereader.proofs.FileReader as T
 use Rattle.filereader.proofs.FileReader.Laws as T′
@@ -249,7 +250,8 @@ module _ {M : Type 1} (𝓤 : URA M) (H : Heap 𝓤) (A : Atoms 𝓤) (W : Given
   exits r u ys zs e l₁ l₂ =
       qed W (Tokens ∷ ‵ (finally u32 γ₁ ys) ∷ ‵ (finally u32 γ₂ zs) ∷ ‵ Own ∷ ‵ (P.the-row .own r (u ∷ [])) ∷ []) ∵
       suffices ! _ (ends-at 𝓤 H A f.ended stayed (f.clauses 𝓤 H A mem run) W ((κs, qs, tt, a, at), tt)
-      u r (tt, (ys, (zs, tt))) (tt, (l₁, (l₂, tt)))) $ says ! e $ frame ! $
+      u r (tt, (ys, (zs, tt))) (tt, (l₁, (l₂, tt)))) $
+      shown ! (and 𝓤 (one 𝓤 (e .0 .0)) (and 𝓤 (one 𝓤 (e .0 .1)) (and 𝓤 (one 𝓤 (e .0 .2)) (one 𝓤 (e .1))))) $ frame ! $
       nothing ! $ move ! (2 ∷ 0 ∷ []) $ fjoin ! $ move ! (1 ∷ 0 ∷ []) $ fjoin ! $ move ! (1 ∷ 0 ∷ []) $ fjoin ! $ done !
 
   module _ (C : Calls 𝓤 H) (Λ : Loops 𝓤 H) (fm : FmC 𝓤 H (W .laws) C) (known : Known 𝓤 H A mem run C) where
@@ -361,9 +363,10 @@ module _ {M : Type 1} (𝓤 : URA M) (H : Heap 𝓤) (A : Atoms 𝓤) (W : Given
 
   read-plan-held-meets : Meets 𝓤 H A f.signature (WpFn 𝓤 H (𝓣 .C) (𝓣 .Λ) code.function) (f.spec 𝓤 H A mem run)
   read-plan-held-meets =
-      walk-meets 𝓤 H A f.ended stayed W
-      (goes-none-slice 𝓤 H A W 3 (0 ∷ []) tt (plain (λ _. u8)) yes,
-      (goes-gave-slice 𝓤 H A W 3 1 tt (plain (λ _. u32)), (goes-gave-slice 𝓤 H A W 3 2 tt (plain (λ _. u32)), tt)))
+      walk-meets 𝓤 H A f.ended stayed W (
+        goes-none-slice 𝓤 H A W 3 (0 ∷ []) tt (plain (λ _. u8)) yes,
+        (goes-gave-slice 𝓤 H A W 3 1 tt (plain (λ _. u32)), (goes-gave-slice 𝓤 H A W 3 2 tt (plain (λ _. u32)), tt)),
+      )
       (f.clauses 𝓤 H A mem run) (WpFn 𝓤 H (𝓣 .C) (𝓣 .Λ) code.function) (WpFn-mono 𝓤 H (W .laws) 𝓣 code.function) read-plan-held-walks
 
 pub read-plan-held-spec : {M : Type 1} → stated.statement M
