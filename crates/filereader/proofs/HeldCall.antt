@@ -26,7 +26,8 @@ module _ {M : Type 1} {𝓤 : URA M} {H : Heap 𝓤} {A : Atoms 𝓤} {K : Type 
       → (y : Callee 𝓤 H A T c .Ghost) (φ : Result 𝓤 H A T c y .Denot → Type 0) → Says 𝓤 H A T c y φ
       → Opds K W (raw (Callee 𝓤 H A T c .pre y) ∷ Γ) E xs (passed 𝓤 H A (T .signature) (y .0))
       → ((v : Val) (r : Result 𝓤 H A T c y .Denot) → φ r
-      → Seq K W (raw (alive 𝓤 H A (T .signature) (y .0 .0) (y .0 .1)) ∷ ‵ (Result 𝓤 H A T c y .own r (v ∷ [])) ∷ Γ) (lands C Λ E d v rest p))
+      → Seq K W (raw (alive 𝓤 H A (T .signature) (y .0 .0) (y .0 .1)) ∷ ‵ (Result 𝓤 H A T c y .own r (v ∷ [])) ∷ Γ)
+      (lands C Λ E d v rest p))
       → Seq K W (raw (Callee 𝓤 H A T c .pre y) ∷ Γ) (runs C Λ E (seq (call f xs d) rest) p)
   calls-held t fm T c known y φ said os k =
       let R = Result 𝓤 H A T c y in

@@ -1,4 +1,5 @@
 -- Laws that belong to no one function.
+pub mod Apart
 pub mod Clauses
 pub mod HeldCall
 pub mod Reading
