@@ -2,6 +2,7 @@
 -- the reader stands after it, and `moved` makes that reader, which the answer holds beside the number. Of the three callees the proof
 -- knows only that each meets its contract.
 -- The reader is Copy: what it owns is had three times, for the two calls that take it and for the exit. Assumes nothing.
+mod Callees
 use mathlib.Core.Path.{_≡_, refl, ap, subst}
 use Prim.Native.Nat.{ℕ, _<_, _^_}
 use mathlib.Core.List.{[], _∷_}
@@ -34,14 +35,13 @@ use denote.Steps.{only, owned, peeks, facts, nothing}
 use denote.Enum.Laws as EL
 use denote.Struct.Laws as LL
 use denote.Struct.Rest.{own-shut}
-use denote.Triple.Statement.{Contract, Triple}
 use denote.Triple.Entry.{Vals, onEntry}
 use denote.Triple.Spec.{Meets, tripleOf}
-use denote.Triple.Table.{entered, cited}
+use denote.Triple.Table.{entered}
 use denote.Triple.Walked.{says, Stays, stay-none, walkOf, goes-none, Walks, ends-at, walked, walk-meets}
 use denote.Exit.{yes}
 use Rattle.records.proofs.Whole.{local, sets, gets}
-use Rattle.records.proofs.PlainCall.{Callee, calls-plain}
+use Rattle.records.proofs.PlainCall.{calls-plain}
 use Rattle.planfile.specs.Reading.{Step, number}
 use Rattle.planfile.specs.Answer.{taken}
 use Rattle.planfile.specs.declared.Taken.{Taken}
@@ -56,17 +56,9 @@ use Rattle.filereader.proofs.FileReader.Laws as T′
 use Rattle.filereader.proofs.NumberRead as N
 use Rattle.filereader.proofs.NumberRead.Laws as N′
 use Rattle.filereader.proofs.number_of as num
-use Rattle.filereader.proofs.number_of.Symbol as num-def
-use Rattle.filereader.proofs.number_of.Symbol.{name as #num}
-use Rattle.filereader.proofs.number_of.Met as num-thm
 use Rattle.filereader.proofs.steps.place_after as place
-use Rattle.filereader.proofs.steps.place_after.Symbol as place-def
-use Rattle.filereader.proofs.steps.place_after.Symbol.{name as #place}
-use Rattle.filereader.proofs.steps.place_after.Met as place-thm
 use Rattle.filereader.proofs.moved as moved
-use Rattle.filereader.proofs.moved.Symbol as moved-def
-use Rattle.filereader.proofs.moved.Symbol.{name as #moved}
-use Rattle.filereader.proofs.moved.Met as moved-thm
+use Rattle.filereader.proofs.read_number.Proof.Callees.{NumberOf, Moved, Known, knows}
 use Rattle.filereader.proofs.read_number.Key.{name as #read-number}
 use Rattle.filereader.proofs.read_number as f
 use Rattle.filereader.proofs.read_number.Statement as stated
@@ -78,23 +70,6 @@ B κs = T.the-row (namedLft 1 0 tt κs)
 
 abbrev stayed : Stays (f.ended .signature .params) (f.ended .kept)
 stayed = (stay-none B yes, (stay-none (λ _. u32) yes, (stay-none (λ _. u32) yes, (stay-none (λ _. u32) yes, tt))))
-
-module _ {M : Type 1} (𝓤 : URA M) (H : Heap 𝓤) (A : Atoms 𝓤) (mem : Memory → SProp 𝓤) (run : Routine → Fun 𝓤) where
-  -- the contracts that the proof cites
-  abbrev NumberOf : Contract 𝓤
-  NumberOf = Callee 𝓤 H A num.ended (num.clauses 𝓤 H A mem run)
-
-  abbrev Place : Contract 𝓤
-  Place = Callee 𝓤 H A place.ended (place.clauses 𝓤 H A mem run)
-
-  abbrev Moved : Contract 𝓤
-  Moved = Callee 𝓤 H A moved.ended (moved.clauses 𝓤 H A mem run)
-
-  -- each entry of the table of calls meets its contract
-  record Known (C : Calls 𝓤 H) : Type 1 where
-    numbers : Triple 𝓤 (C #num) NumberOf
-    places : Triple 𝓤 (C #place) Place
-    moves : Triple 𝓤 (C #moved) Moved
 
 module _ {M : Type 1} (𝓤 : URA M) (H : Heap 𝓤) (A : Atoms 𝓤) (W : Given 𝓤 H A) (mem : Memory → SProp 𝓤) (run : Routine → Fun 𝓤)
     (κ : Lft) (q : Share) (d : FileReader) (lo hi fault : ℕ) (lo-fits : lo < 2 ^ 32) (hi-fits : hi < 2 ^ 32)
@@ -233,11 +208,10 @@ module _ {M : Type 1} (𝓤 : URA M) (H : Heap 𝓤) (A : Atoms 𝓤) (W : Given
         (init ! 23 refl (LL.lawful (N.the-type α) (N′.the-laws α) 𝓤 H A W .typed (made m t) _ isN .0)) $
         returns ! (look ! 23 refl) $ forget ! 3 refl $ forget ! 5 refl $ forget ! 7 refl $ forget ! 9 refl $ forget ! 11 refl $
         forget ! 13 refl $ forget ! 15 refl $ forget ! 17 refl $ forget ! 19 refl $ forget ! 21 refl $ forget ! 23 refl $
-        move ! (23 ∷ 24 ∷ []) $ free1 ! $ move ! (21 ∷ 22 ∷ []) $ free1 ! $ move ! (19 ∷ 20 ∷ []) $ free1 ! $ move ! (17 ∷ 18 ∷ []) $
-        free1 ! $
-        move ! (15 ∷ 16 ∷ []) $ free1 ! $ move ! (13 ∷ 14 ∷ []) $ free1 ! $ move ! (11 ∷ 12 ∷ []) $ free1 ! $ move ! (9 ∷ 10 ∷ []) $
-        free1 ! $
-        move ! (7 ∷ 8 ∷ []) $ free1 ! $ move ! (5 ∷ 6 ∷ []) $ free1 ! $ move ! (3 ∷ 4 ∷ []) $ free1 ! $ free0 ! $
+        move ! (23 ∷ 24 ∷ []) $ free1 ! $ move ! (21 ∷ 22 ∷ []) $ free1 ! $ move ! (19 ∷ 20 ∷ []) $ free1 ! $
+        move ! (17 ∷ 18 ∷ []) $ free1 ! $ move ! (15 ∷ 16 ∷ []) $ free1 ! $ move ! (13 ∷ 14 ∷ []) $ free1 ! $
+        move ! (11 ∷ 12 ∷ []) $ free1 ! $ move ! (9 ∷ 10 ∷ []) $ free1 ! $ move ! (7 ∷ 8 ∷ []) $ free1 ! $ move ! (5 ∷ 6 ∷ []) $ free1 ! $
+        move ! (3 ∷ 4 ∷ []) $ free1 ! $ free0 ! $
         by ! (exits m t e em))))))))))))))))))
 
 module _ {M : Type 1} (𝓤 : URA M) (H : Heap 𝓤) (A : Atoms 𝓤) (W : Given 𝓤 H A) (mem : Memory → SProp 𝓤) (run : Routine → Fun 𝓤)
@@ -287,15 +261,4 @@ unfolding code.routine tablesOf
 read-number-spec 𝓤 H 𝓜 𝓖 𝓡 =
     entered 𝓤 H (tripleOf 𝓤 H (𝓖 .A) f.signature (f.spec 𝓤 H (𝓖 .A) (𝓜 .mem) (𝓡 .run)))
     (tables 𝓤 H 𝓜 𝓡 code.env .C) (tables 𝓤 H 𝓜 𝓡 code.env .Λ) #read-number code.function (code.unfolded 𝓤 H 𝓜 𝓡)
-    (read-number-meets 𝓤 H (𝓖 .A) (givenOf 𝓤 H 𝓜 𝓖) (𝓜 .mem) (𝓡 .run) (tablesOf 𝓤 H 𝓜 (tables 𝓤 H 𝓜 𝓡 code.env))
-    (record {
-      numbers =
-          cited 𝓤 H (NumberOf 𝓤 H (𝓖 .A) (𝓜 .mem) (𝓡 .run)) 𝓜 𝓡 code.env #num num-def.routine code.calls-filereader·number-of
-          (num-thm.met 𝓤 H 𝓜 𝓖 𝓡);
-      places =
-          cited 𝓤 H (Place 𝓤 H (𝓖 .A) (𝓜 .mem) (𝓡 .run)) 𝓜 𝓡 code.env #place place-def.routine code.calls-filereader·steps·place-after
-          (place-thm.met 𝓤 H 𝓜 𝓖 𝓡);
-      moves =
-          cited 𝓤 H (Moved 𝓤 H (𝓖 .A) (𝓜 .mem) (𝓡 .run)) 𝓜 𝓡 code.env #moved moved-def.routine code.calls-filereader·moved
-          (moved-thm.met 𝓤 H 𝓜 𝓖 𝓡);
-    }))
+    (read-number-meets 𝓤 H (𝓖 .A) (givenOf 𝓤 H 𝓜 𝓖) (𝓜 .mem) (𝓡 .run) (tablesOf 𝓤 H 𝓜 (tables 𝓤 H 𝓜 𝓡 code.env)) (knows 𝓤 H 𝓜 𝓖 𝓡))

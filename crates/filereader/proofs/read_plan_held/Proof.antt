@@ -3,6 +3,7 @@
 -- contract; that they give together what `read_plan` gives is `Reading`'s `as-read`.
 -- The slice and the reader are Copy, and one copy of what the slice owns is kept for the exit; the two `&mut` go to `plan_of` for good.
 -- Assumes nothing.
+mod Callees
 use mathlib.Core.Path.{_≡_, refl, ap}
 use Prim.Native.Nat.{ℕ}
 use mathlib.Core.List.{List, [], _∷_}
@@ -38,17 +39,16 @@ use denote.Slice.{sliceVal, ShrSlice, MutSlice, Room, finally, slice-vals, shr-s
 use denote.Steps.{only, owned, peeks, facts, heard, nothing}
 use denote.Enum.Laws as EL
 use denote.Struct.Laws as LL
-use denote.Triple.Statement.{Contract, Triple}
 use denote.Triple.Call.{calls-at}
 use denote.Triple.Entry.{Vals, onEntry}
 use denote.Triple.Spec.{Meets, tripleOf}
-use denote.Triple.Table.{entered, cited}
+use denote.Triple.Table.{entered}
 use denote.Triple.Walked.{says, Stays, stay-none-slice, gave-slice, walkOf, goes-none-slice, goes-gave-slice, Walks, ends-at, walked}
 use denote.Triple.Walked.{walk-meets}
 use denote.Exit.{yes}
 use denote.Triple.Clauses.{ensured, lasts}
 use Rattle.records.proofs.Whole.{local, sets, gets}
-use Rattle.records.proofs.PlainCall.{Callee, calls-plain}
+use Rattle.records.proofs.PlainCall.{calls-plain}
 use Rattle.planfile.specs.Bytes.{Bytes}
 use Rattle.planfile.specs.Answer.{headed, readGives, IsFileOf}
 use Rattle.planfile.specs.declared.Header.{Header}
@@ -65,25 +65,11 @@ use Rattle.filereader.proofs.Reading.{as-read}
 use Rattle.filereader.proofs.FileReader as T
 use Rattle.filereader.proofs.FileReader.Laws as T′
 use Rattle.filereader.proofs.open as opens
-use Rattle.filereader.proofs.open.Symbol as open-def
-use Rattle.filereader.proofs.open.Symbol.{name as #open}
-use Rattle.filereader.proofs.open.Met as open-thm
 use Rattle.filereader.proofs.header_of as head
-use Rattle.filereader.proofs.header_of.Symbol as head-def
-use Rattle.filereader.proofs.header_of.Symbol.{name as #head}
-use Rattle.filereader.proofs.header_of.Met as head-thm
 use Rattle.filereader.proofs.steps.rows_place as place
-use Rattle.filereader.proofs.steps.rows_place.Symbol as place-def
-use Rattle.filereader.proofs.steps.rows_place.Symbol.{name as #place}
-use Rattle.filereader.proofs.steps.rows_place.Met as place-thm
 use Rattle.filereader.proofs.moved as moved
-use Rattle.filereader.proofs.moved.Symbol as moved-def
-use Rattle.filereader.proofs.moved.Symbol.{name as #moved}
-use Rattle.filereader.proofs.moved.Met as moved-thm
 use Rattle.filereader.proofs.plan_of as plan
-use Rattle.filereader.proofs.plan_of.Symbol as plan-def
-use Rattle.filereader.proofs.plan_of.Symbol.{name as #plan}
-use Rattle.filereader.proofs.plan_of.Met as plan-thm
+use Rattle.filereader.proofs.read_plan_held.Proof.Callees.{Open, HeaderOf, Moved, PlanOf, Known, knows}
 use Rattle.filereader.proofs.read_plan_held.Key.{name as #read-plan-held}
 use Rattle.filereader.proofs.read_plan_held as f
 use Rattle.filereader.proofs.read_plan_held.Statement as stated
@@ -101,31 +87,6 @@ stayed = (
 -- the last values of what `plan_of` is passed: of the two lists alone
 abbrev Lists : Type 0
 Lists = Unit {0} × (Unit {0} × (List ℕ × (List ℕ × Unit {0})))
-
-module _ {M : Type 1} (𝓤 : URA M) (H : Heap 𝓤) (A : Atoms 𝓤) (mem : Memory → SProp 𝓤) (run : Routine → Fun 𝓤) where
-  -- the contracts that the proof cites
-  abbrev Open : Contract 𝓤
-  Open = Callee 𝓤 H A opens.ended (opens.clauses 𝓤 H A mem run)
-
-  abbrev HeaderOf : Contract 𝓤
-  HeaderOf = Callee 𝓤 H A head.ended (head.clauses 𝓤 H A mem run)
-
-  abbrev Place : Contract 𝓤
-  Place = Callee 𝓤 H A place.ended (place.clauses 𝓤 H A mem run)
-
-  abbrev Moved : Contract 𝓤
-  Moved = Callee 𝓤 H A moved.ended (moved.clauses 𝓤 H A mem run)
-
-  abbrev PlanOf : Contract 𝓤
-  PlanOf = Callee 𝓤 H A plan.ended (plan.clauses 𝓤 H A mem run)
-
-  -- each entry of the table of calls meets its contract
-  record Known (C : Calls 𝓤 H) : Type 1 where
-    opens : Triple 𝓤 (C #open) Open
-    heads : Triple 𝓤 (C #head) HeaderOf
-    places : Triple 𝓤 (C #place) Place
-    moves : Triple 𝓤 (C #moved) Moved
-    plans : Triple 𝓤 (C #plan) PlanOf
 
 module _ {M : Type 1} (𝓤 : URA M) (H : Heap 𝓤) (A : Atoms 𝓤) (W : Given 𝓤 H A) (mem : Memory → SProp 𝓤) (run : Routine → Fun 𝓤)
     (κs : Lfts 3) (q₀ q₁ q₂ : Share) (s : RefT (List ℕ)) (b₁ o₁ : ℕ) (γ₁ : GName) (ds : List ℕ) (b₂ o₂ : ℕ) (γ₂ : GName)
@@ -352,16 +313,12 @@ module _ {M : Type 1} (𝓤 : URA M) (H : Heap 𝓤) (A : Atoms 𝓤) (W : Given
         gets ! (init ! 36 refl (EL.lawful P.the-type P′.the-laws 𝓤 H A W tt .typed r _ is .0)) $
         returns ! (look ! 36 refl) $ forget ! 6 refl $ forget ! 8 refl $ forget ! 10 refl $ forget ! 12 refl $ forget ! 14 refl $
         forget ! 16 refl $ forget ! 18 refl $ forget ! 20 refl $ forget ! 22 refl $ forget ! 24 refl $ forget ! 26 refl $
-        forget ! 28 refl $
-        forget ! 30 refl $ forget ! 32 refl $ forget ! 34 refl $ forget ! 36 refl $
-        move ! (36 ∷ 37 ∷ []) $ free1 ! $ move ! (34 ∷ 35 ∷ []) $ free1 ! $ move ! (32 ∷ 33 ∷ []) $ free1 ! $ move ! (30 ∷ 31 ∷ []) $
-        free1 ! $
-        move ! (28 ∷ 29 ∷ []) $ free1 ! $ move ! (26 ∷ 27 ∷ []) $ free1 ! $ move ! (24 ∷ 25 ∷ []) $ free1 ! $ move ! (22 ∷ 23 ∷ []) $
-        free1 ! $
-        move ! (20 ∷ 21 ∷ []) $ free1 ! $ move ! (18 ∷ 19 ∷ []) $ free1 ! $ move ! (16 ∷ 17 ∷ []) $ free1 ! $ move ! (14 ∷ 15 ∷ []) $
-        free1 ! $
-        move ! (12 ∷ 13 ∷ []) $ free1 ! $ move ! (10 ∷ 11 ∷ []) $ free1 ! $ move ! (8 ∷ 9 ∷ []) $ free1 ! $ move ! (6 ∷ 7 ∷ []) $
-        free1 ! $ free0 ! $
+        forget ! 28 refl $ forget ! 30 refl $ forget ! 32 refl $ forget ! 34 refl $ forget ! 36 refl $ move ! (36 ∷ 37 ∷ []) $ free1 ! $
+        move ! (34 ∷ 35 ∷ []) $ free1 ! $ move ! (32 ∷ 33 ∷ []) $ free1 ! $ move ! (30 ∷ 31 ∷ []) $ free1 ! $
+        move ! (28 ∷ 29 ∷ []) $ free1 ! $ move ! (26 ∷ 27 ∷ []) $ free1 ! $ move ! (24 ∷ 25 ∷ []) $ free1 ! $
+        move ! (22 ∷ 23 ∷ []) $ free1 ! $ move ! (20 ∷ 21 ∷ []) $ free1 ! $ move ! (18 ∷ 19 ∷ []) $ free1 ! $
+        move ! (16 ∷ 17 ∷ []) $ free1 ! $ move ! (14 ∷ 15 ∷ []) $ free1 ! $ move ! (12 ∷ 13 ∷ []) $ free1 ! $
+        move ! (10 ∷ 11 ∷ []) $ free1 ! $ move ! (8 ∷ 9 ∷ []) $ free1 ! $ move ! (6 ∷ 7 ∷ []) $ free1 ! $ free0 ! $
         keep ! (1 ∷ 4 ∷ 2 ∷ 5 ∷ 0 ∷ []) $
         by ! (exits r u (ws .1 .1 .0) (ws .1 .1 .1 .0) (as-read (s .now) ds os h m r _ _ (eh .0) em
         (eh .2) e) n₁ n₂)))))))))))))))))))))))))))))))
@@ -398,21 +355,4 @@ unfolding code.routine tablesOf
 read-plan-held-spec 𝓤 H 𝓜 𝓖 𝓡 =
     entered 𝓤 H (tripleOf 𝓤 H (𝓖 .A) f.signature (f.spec 𝓤 H (𝓖 .A) (𝓜 .mem) (𝓡 .run)))
     (tables 𝓤 H 𝓜 𝓡 code.env .C) (tables 𝓤 H 𝓜 𝓡 code.env .Λ) #read-plan-held code.function (code.unfolded 𝓤 H 𝓜 𝓡)
-    (read-plan-held-meets 𝓤 H (𝓖 .A) (givenOf 𝓤 H 𝓜 𝓖) (𝓜 .mem) (𝓡 .run) (tablesOf 𝓤 H 𝓜 (tables 𝓤 H 𝓜 𝓡 code.env))
-    (record {
-      opens =
-          cited 𝓤 H (Open 𝓤 H (𝓖 .A) (𝓜 .mem) (𝓡 .run)) 𝓜 𝓡 code.env #open open-def.routine code.calls-filereader·open
-          (open-thm.met 𝓤 H 𝓜 𝓖 𝓡);
-      heads =
-          cited 𝓤 H (HeaderOf 𝓤 H (𝓖 .A) (𝓜 .mem) (𝓡 .run)) 𝓜 𝓡 code.env #head head-def.routine code.calls-filereader·header-of
-          (head-thm.met 𝓤 H 𝓜 𝓖 𝓡);
-      places =
-          cited 𝓤 H (Place 𝓤 H (𝓖 .A) (𝓜 .mem) (𝓡 .run)) 𝓜 𝓡 code.env #place place-def.routine code.calls-filereader·steps·rows-place
-          (place-thm.met 𝓤 H 𝓜 𝓖 𝓡);
-      moves =
-          cited 𝓤 H (Moved 𝓤 H (𝓖 .A) (𝓜 .mem) (𝓡 .run)) 𝓜 𝓡 code.env #moved moved-def.routine code.calls-filereader·moved
-          (moved-thm.met 𝓤 H 𝓜 𝓖 𝓡);
-      plans =
-          cited 𝓤 H (PlanOf 𝓤 H (𝓖 .A) (𝓜 .mem) (𝓡 .run)) 𝓜 𝓡 code.env #plan plan-def.routine code.calls-filereader·plan-of
-          (plan-thm.met 𝓤 H 𝓜 𝓖 𝓡);
-    }))
+    (read-plan-held-meets 𝓤 H (𝓖 .A) (givenOf 𝓤 H 𝓜 𝓖) (𝓜 .mem) (𝓡 .run) (tablesOf 𝓤 H 𝓜 (tables 𝓤 H 𝓜 𝓡 code.env)) (knows 𝓤 H 𝓜 𝓖 𝓡))
