@@ -13,7 +13,7 @@ use Rattle.planfile.specs.declared.Taken.{Taken}
 use Rattle.planfile.specs.declared.Taken.the-variants.{Value, Refused}
 use Rattle.planfile.specs.declared.PlanRead.{PlanRead}
 use Rattle.planfile.proofs.Promises as planfile
-use Rattle.filereader.specs.Held.{after, Gives}
+use Rattle.filereader.specs.Held.{after, ReadsNumber, Gives}
 use Rattle.filereader.specs.declared.FileReader.{FileReader}
 use Rattle.filereader.specs.declared.NumberRead.{NumberRead}
 
@@ -30,11 +30,6 @@ taken-again : (t : Taken) → untaken (taken t) ≡ t
 unfolding taken
 taken-again (Value v next) = refl
 taken-again (Refused n p) = refl
-
--- what `read_number` ensures
-abbrev ReadsNumber : FileReader → ℕ → ℕ → ℕ → NumberRead → Type 0
-ReadsNumber d low high fault q = (taken (q .taken) ≡ number (now (d .bytes)) (d .at) low high fault) × (q .reader .bytes ≡ d .bytes) ×
-    (q .reader .at ≡ after (d .at) (taken (q .taken)))
 
 -- no second number, and no second reader after it
 pub no-second-number : (d : FileReader) (low high fault : ℕ) (q q′ : NumberRead) → ReadsNumber d low high fault q →

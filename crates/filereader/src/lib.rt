@@ -11,7 +11,7 @@ ghost use Rattle.planfile.specs.Bytes.{Bytes};
 ghost use Rattle.planfile.specs.Format.{tag};
 ghost use Rattle.planfile.specs.Reading.{number};
 ghost use Rattle.planfile.specs.Answer.{taken, headed, readSaid, readGives, IsFileOf};
-ghost use Rattle.filereader.specs.Held.{after, tagged, InRange, restGives, Gives};
+ghost use Rattle.filereader.specs.Held.{ReadsNumber, tagged, InRange, restGives, Gives};
 
 pub struct FileReader<'a> {
     pub bytes: &'a [u8],
@@ -53,7 +53,7 @@ fn number_of<'a>(r: FileReader<'a>, low: u32, high: u32, fault: u32) -> Taken
 
 // The number at the reader's place, or the refusal, and the reader moved past it.
 pub fn read_number<'a>(r: FileReader<'a>, low: u32, high: u32, fault: u32) -> NumberRead<'a>
-    ensures { λ q. ⌜ (taken (q .taken) ≡ number (now (r .entry .bytes)) (r .entry .at) low high fault) × (q .reader .bytes ≡ r .entry .bytes) × (q .reader .at ≡ after (r .entry .at) (taken (q .taken))) ⌝ }
+    ensures { λ q. ⌜ ReadsNumber (r .entry) low high fault q ⌝ }
 {
     let taken = number_of(r, low, high, fault);
     NumberRead {
