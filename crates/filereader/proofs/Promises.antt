@@ -2,7 +2,6 @@
 use mathlib.Core.Path.{_≡_, refl, sym, ap, _∙_}
 use mathlib.Core.List.{List, [], _∷_}
 use Prim.Native.Nat.{ℕ}
-use denote.Ref.{now}
 use Rattle.link.specs.Limits.{maxPeriod, badPeriod}
 use Rattle.link.specs.Refusal.{outside}
 use Rattle.link.proofs.Unique as unique
