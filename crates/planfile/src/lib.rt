@@ -1,7 +1,7 @@
 // The plan file: a plan written to a file reads back the same, and each accepted file is the only one for its plan.
 pub mod causes;
 mod groups;
-mod reader;
+pub mod reader;
 mod writer;
 
 use crate::causes::WRONG_TAG;
@@ -70,7 +70,7 @@ pub enum PlanWritten {
 }
 
 // "PMA" and the version.
-const TAG: [u8; 4] = *b"PMA\x01";
+pub const TAG: [u8; 4] = *b"PMA\x01";
 
 // Writes a clear plan into the front of the buffer.
 pub fn write_plan(link: Link, delays: &[u32], offsets: &[u32], buffer: &mut [u8]) -> PlanWritten

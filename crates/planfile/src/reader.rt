@@ -44,7 +44,7 @@ pub fn begins(tag: &[u8], bytes: &[u8]) -> bool
 }
 
 // The number at a place: its form, then its range.
-fn take_number(bytes: &[u8], at: usize, low: u32, high: u32, fault: u32) -> Taken
+pub fn take_number(bytes: &[u8], at: usize, low: u32, high: u32, fault: u32) -> Taken
     ensures { λ r. ⌜ taken r ≡ numberOf (now (bytes .entry)) at low high fault ⌝ }
 {
     let got = groups::number_at(bytes, at);

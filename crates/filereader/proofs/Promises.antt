@@ -1,0 +1,45 @@
+-- What the file reader promises. Assumes nothing.
+use mathlib.Core.Path.{_≡_, refl, sym, ap, _∙_}
+use mathlib.Core.List.{List, [], _∷_}
+use Prim.Native.Nat.{ℕ}
+use Rattle.link.specs.Limits.{maxPeriod, badPeriod}
+use Rattle.link.specs.Refusal.{outside}
+use Rattle.link.proofs.Unique as unique
+use Rattle.planfile.specs.Number.{readNumber, groupsRead, onto, ending}
+use Rattle.planfile.specs.Reading.{Step, got, stopped, number}
+use Rattle.planfile.specs.Answer.{taken, readGives}
+use Rattle.planfile.specs.declared.Taken.{Taken}
+use Rattle.planfile.specs.declared.Taken.the-variants.{Value, Refused}
+use Rattle.planfile.specs.declared.PlanRead.{PlanRead}
+use Rattle.planfile.proofs.Promises as planfile
+use Rattle.filereader.specs.Held.{after, ReadsNumber, Gives}
+use Rattle.filereader.specs.declared.FileReader.{FileReader}
+use Rattle.filereader.specs.declared.NumberRead.{NumberRead}
+
+-- whatever `read_plan` answers and leaves in the two lists, `read_plan_held` does: no second answer meets the contract they share
+pub as-read-plan : (bs oldD oldO : List ℕ) (r r′ : PlanRead) (ds ds′ os os′ : List ℕ) → Gives (readGives bs oldD oldO) r ds os →
+    Gives (readGives bs oldD oldO) r′ ds′ os′ → (r ≡ r′) × (ds ≡ ds′) × (os ≡ os′)
+as-read-plan = planfile.no-second-reading
+
+abbrev untaken : Step ℕ → Taken
+untaken (got v next) = Value v next
+untaken (stopped n p) = Refused n p
+
+taken-again : (t : Taken) → untaken (taken t) ≡ t
+unfolding taken
+taken-again (Value v next) = refl
+taken-again (Refused n p) = refl
+
+-- no second number, and no second reader after it
+pub no-second-number : (d : FileReader) (low high fault : ℕ) (q q′ : NumberRead) → ReadsNumber d low high fault q →
+    ReadsNumber d low high fault q′ → q ≡ q′
+no-second-number d low high fault q q′ w w′ =
+    let same = unique.no-second taken untaken taken-again (w .0) (w′ .0) in
+    let bytes = w .1 ∙ sym (w′ .1) in
+    let place = w .2 ∙ ap (λ (t : Taken). after (d .at) (taken t)) same ∙ sym (w′ .2) in
+    λ i. record { reader = record { bytes = bytes i; at = place i }; taken = same i }
+
+-- "300 is AC 02": as a period, and the reader moved past its two bytes
+pub worked-300 : number (0xAC ∷ 0x02 ∷ 0x01 ∷ []) 0 1 maxPeriod badPeriod ≡ got 300 2
+unfolding number readNumber groupsRead onto ending outside
+worked-300 = refl

@@ -1,0 +1,2 @@
+-- The definitions that the contracts of `filereader` cite.
+pub mod Held
