@@ -11,7 +11,7 @@ use Rattle.planfile.specs.Answer.{taken, readGives}
 use Rattle.planfile.specs.declared.Taken.{Taken}
 use Rattle.planfile.specs.declared.Taken.the-variants.{Value, Refused}
 use Rattle.planfile.specs.declared.PlanRead.{PlanRead}
-use Rattle.planfile.proofs.Promises as planfile
+use Rattle.planfile.proofs.NoSecond as planfile
 use Rattle.filereader.specs.Held.{after, ReadsNumber, Gives}
 use Rattle.filereader.specs.declared.FileReader.{FileReader}
 use Rattle.filereader.specs.declared.NumberRead.{NumberRead}
