@@ -7,16 +7,16 @@ use Prim.Native.Nat.{ℕ, _≤_, _<_}
 use native.Mathlib.Omega.{arith}
 use lib.ListN.{length, getD}
 use borrow.Author.Tests.{ltb-true}
-use Rattle.link.specs.Least.{least, some}
+use Rattle.ground.specs.Least.{least, some}
 use Rattle.link.specs.Rows.{Crossing, numbered, start, hits, free, metAt, isNobody}
-use Rattle.link.specs.declared.Judged.{Judged}
-use Rattle.link.specs.declared.Judged.the-variants.{Fine, Fault}
+use Rattle.ground.specs.declared.Judged.{Judged}
+use Rattle.ground.specs.declared.Judged.the-variants.{Fine, Fault}
 use Rattle.link.specs.declared.Met.{Met}
 use Rattle.link.specs.declared.Met.the-variants.{Nobody, Row}
-use Rattle.link.proofs.Bools.{clash, lt-or-ge}
+use Rattle.ground.proofs.Bools.{clash, lt-or-ge}
 use Rattle.link.proofs.Circle.{meets-true, meets-slot}
 use Rattle.link.proofs.Meeting.{FirstHit, hit-is, hit-either}
-use Rattle.link.proofs.Minimum.{least-is, none-has, some-at}
+use Rattle.ground.proofs.Minimum.{least-is, none-has, some-at}
 use Rattle.checker.specs.Answer.{Said, Verdict, clear, collision, refusal, clearly, colliding, metBy, blocked, nameAs, named, unless}
 use Rattle.checker.specs.Order.{Collides, NotAfter, FirstCollision}
 use Rattle.checker.proofs.Naming.{met-blocked}

@@ -1,19 +1,19 @@
 -- How the walk over the rows shows which collision is named. Assumes nothing.
 use mathlib.Core.Path.{_≡_, refl, sym, _∙_, ap}
-use mathlib.Core.Bool.{Bool, true, false, not}
+use mathlib.Core.Bool.{true, false, not}
 use mathlib.Core.List.{List}
 use Prim.Native.Nat.{ℕ, _+_, _<_, _≤_}
 use native.Mathlib.Omega.{arith}
 use lib.ListN.{length, getD, take, set, length-set}
 use borrow.Author.Count.{below-more, below-none}
-use Rattle.link.specs.Least.{least}
+use Rattle.ground.specs.Least.{least}
 use Rattle.link.specs.Limits.{maxRows}
 use Rattle.link.specs.Rows.{two, second, start, firstNear, isNobody}
 use Rattle.link.specs.Range.{InRange}
 use Rattle.link.specs.declared.Met.{Met}
 use Rattle.link.specs.declared.Met.the-variants.{Nobody, Row}
-use Rattle.link.proofs.Filling.{stored}
-use Rattle.link.proofs.Minimum.{least-at, some-at, some-none}
+use Rattle.ground.proofs.Filling.{stored}
+use Rattle.ground.proofs.Minimum.{least-at, some-at, some-none}
 use Rattle.link.proofs.Meeting.{Starts, told, nobody-free}
 use Rattle.checker.specs.Answer.{clearly, colliding, metBy, blocked, named}
 

@@ -6,12 +6,13 @@ use mathlib.Core.List.{List}
 use Prim.Native.Nat.{ℕ}
 use borrow.Author.Tests.{not-false}
 use Rattle.link.specs.Range.{GoodPlan}
-use Rattle.link.specs.Refusal.{first, planFaults}
+use Rattle.ground.specs.Judging.{first}
+use Rattle.link.specs.Refusal.{planFaults}
 use Rattle.link.specs.Rows.{spanOf, Clear}
 use Rattle.link.specs.declared.Link.{Link}
 use Rattle.link.proofs.Accepted.{good-plan, fine-plan}
 use Rattle.link.proofs.Clearness.{clear-rows, rows-clear}
-use Rattle.link.proofs.Unique as unique
+use Rattle.ground.proofs.Answers as unique
 use Rattle.checker.specs.Answer.{Said, Verdict, clear, collision, refusal, said, blocked, answer}
 use Rattle.checker.specs.Order.{FirstCollision}
 use Rattle.checker.specs.declared.Checked.{Checked}

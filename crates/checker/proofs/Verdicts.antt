@@ -4,13 +4,14 @@ use mathlib.Core.Bool.{Bool, true, false, not}
 use mathlib.Core.List.{List}
 use Prim.Native.Nat.{ℕ}
 use Rattle.link.specs.Range.{GoodPlan}
-use Rattle.link.specs.Refusal.{first, planFaults}
+use Rattle.ground.specs.Judging.{first}
+use Rattle.link.specs.Refusal.{planFaults}
 use Rattle.link.specs.Rows.{spanOf, Clear}
 use Rattle.link.specs.declared.Link.{Link}
-use Rattle.link.specs.declared.Judged.{Judged}
-use Rattle.link.specs.declared.Judged.the-variants.{Fine, Fault}
+use Rattle.ground.specs.declared.Judged.{Judged}
+use Rattle.ground.specs.declared.Judged.the-variants.{Fine, Fault}
 use Rattle.link.proofs.Accepted.{fine-plan}
-use Rattle.link.proofs.Bools.{clash}
+use Rattle.ground.proofs.Bools.{clash}
 use Rattle.link.proofs.Clearness.{rows-clear}
 use Rattle.checker.specs.Answer.{Verdict, clear, collision, refusal, Said, clearly, said, blocked, unless, answer}
 use Rattle.checker.specs.declared.Checked.the-variants as checked

@@ -2,15 +2,15 @@
 use mathlib.Core.Path.{_≡_, refl}
 use mathlib.Core.List.{List, [], _∷_}
 use Prim.Native.Nat.{ℕ}
-use Rattle.link.specs.Least.{least, oneMore}
+use Rattle.ground.specs.Least.{least, oneMore}
 use Rattle.link.specs.Range.{GoodPlan}
-use Rattle.link.specs.Refusal.{first, outside, andThen, linkFaults, rowFaults, offsetFaults}
+use Rattle.ground.specs.Judging.{first, outside, andThen}
+use Rattle.link.specs.Refusal.{linkFaults, rowFaults, offsetFaults}
 use Rattle.link.specs.Rows.{second, start, hits, either, free, firstHit, metAt, Clear}
 use Rattle.link.specs.Slots.{uses, meets}
 use Rattle.link.specs.declared.Link.{Link}
 use Rattle.checker.specs.Answer.{said, metBy, blocked, named, answer}
 use Rattle.checker.specs.Order.{FirstCollision}
-use Rattle.checker.specs.declared.Checked.{Checked}
 use Rattle.checker.specs.declared.Checked.the-variants.{Clear as Clearly, Collision}
 use Rattle.checker.proofs.Promises.{clear-exactly, collision-is-first}
 

@@ -1,5 +1,5 @@
 // The checker of plans: clear exactly when no two messages meet on either crossing.
-use link::Judged;
+use ground::Judged;
 use link::Link;
 use link::Met;
 use link::limits::MAX_ROWS;

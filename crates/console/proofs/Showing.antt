@@ -1,19 +1,22 @@
 -- What the two answers on the way show. Assumes nothing.
 use mathlib.Core.Path.{_≡_, refl, sym, _∙_, ap}
 use mathlib.Core.Bool.{Bool, true, false}
-use mathlib.Core.List.{List, [], _∷_}
+use mathlib.Core.List.{List, []}
 use Prim.Native.Nat.{ℕ, _≤_}
 use lib.Dec.{ltb}
-use lib.ListN.{length, take}
+use lib.ListN.{length}
 use borrow.Author.Tests.{ltb-false}
-use Rattle.link.specs.Limits.{maxText, longText, maxExactRows, bytesAfter, badLength}
-use Rattle.link.specs.Refusal.{first, exactFaults}
+use Rattle.search.specs.Limits.{maxExactRows}
+use Rattle.text.specs.Limits.{maxText, longText, bytesAfter}
+use Rattle.link.specs.Limits.{badLength}
+use Rattle.ground.specs.Judging.{first}
+use Rattle.search.specs.Refusal.{exactFaults}
 use Rattle.link.specs.declared.Link.{Link}
-use Rattle.link.specs.declared.Judged.{Judged}
-use Rattle.link.specs.declared.Judged.the-variants.{Fine, Fault}
-use Rattle.link.proofs.Accepted.{good-exact}
-use Rattle.link.proofs.Bools.{clash}
-use Rattle.link.proofs.Faults.{passed, front-fine}
+use Rattle.ground.specs.declared.Judged.{Judged}
+use Rattle.ground.specs.declared.Judged.the-variants.{Fine, Fault}
+use Rattle.search.proofs.Accepted.{good-exact}
+use Rattle.ground.proofs.Bools.{clash}
+use Rattle.ground.proofs.Faults.{passed, front-fine}
 use Rattle.text.specs.Faults.{textFaults, lateFaults, readFaults, rowsOf, endOf}
 use Rattle.text.specs.Reading as reading
 use Rattle.text.specs.declared.Read.{Read}

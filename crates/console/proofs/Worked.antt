@@ -2,8 +2,10 @@
 use mathlib.Core.Path.{_≡_, refl}
 use mathlib.Core.List.{List, [], _∷_}
 use Prim.Native.Nat.{ℕ}
-use Rattle.link.specs.Least.{oneMore, least}
-use Rattle.link.specs.Refusal.{first, outside, andThen, linkFaults, rowFaults, roomFaults, exactFaults}
+use Rattle.ground.specs.Least.{oneMore, least}
+use Rattle.ground.specs.Judging.{first, outside, andThen}
+use Rattle.search.specs.Refusal.{exactFaults}
+use Rattle.link.specs.Refusal.{linkFaults, rowFaults, roomFaults}
 use Rattle.link.specs.Rows.{second, start, hits, either}
 use Rattle.link.specs.Slots.{uses, meets}
 use Rattle.text.specs.Bytes as bytes

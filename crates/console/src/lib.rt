@@ -2,14 +2,14 @@
 mod put;
 
 use link::Link;
-use link::limits::BUDGET_SPENT;
 use link::limits::MAX_ROWS;
 use search::Answer;
+use search::limits::BUDGET_SPENT;
 use text::Read;
-ghost use mathlib.Core.Path.{_≡_};
 ghost use Prim.Native.Nat.{_+_, _*_, _≤_};
 ghost use lib.ListN.{length};
-ghost use Rattle.link.specs.Limits.{maxRows, maxExactRows};
+ghost use Rattle.search.specs.Limits.{maxExactRows};
+ghost use Rattle.link.specs.Limits.{maxRows};
 ghost use Rattle.console.specs.Placed.{Adds};
 ghost use Rattle.console.specs.Printed.{offsetLines, foundLines, noneLine, refusedLine, planned, printed};
 

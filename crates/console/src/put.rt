@@ -1,6 +1,5 @@
 // Bytes put into a buffer at a place; each answers the place behind them.
 ghost use mathlib.Core.Path.{_≡_};
-ghost use mathlib.Core.List.{_++_};
 ghost use Prim.Native.Nat.{_+_, _≤_};
 ghost use lib.ListN.{length, drop};
 ghost use Rattle.console.specs.Printed.{maxDigits, number, numberLine};

@@ -3,8 +3,8 @@ use mathlib.Core.Path.{_≡_, refl, sym, ap, _∙_}
 use mathlib.Core.List.{List, [], _∷_}
 use Prim.Native.Nat.{ℕ}
 use Rattle.link.specs.Limits.{maxPeriod, badPeriod}
-use Rattle.link.specs.Refusal.{outside}
-use Rattle.link.proofs.Unique as unique
+use Rattle.ground.specs.Judging.{outside}
+use Rattle.ground.proofs.Answers as unique
 use Rattle.planfile.specs.Number.{readNumber, groupsRead, onto, ending}
 use Rattle.planfile.specs.Reading.{Step, got, stopped, number}
 use Rattle.planfile.specs.Answer.{taken, readGives}

@@ -1,29 +1,21 @@
 -- The judging lets through exactly the values in range. Assumes nothing.
-use mathlib.Core.Path.{_≡_, refl, sym, _∙_, ap}
-use mathlib.Core.Bool.{Bool, true, false, not}
-use mathlib.Core.List.{List, [], _∷_}
+use mathlib.Core.Path.{_≡_, refl, sym, ap}
+use mathlib.Core.Bool.{not}
+use mathlib.Core.List.{List, []}
 use Prim.Native.Nat.{ℕ, _≤_, _<_}
 use lib.Dec.{ltb, leb, eqb}
 use lib.ListN.{length, getD}
 use borrow.Author.Tests.{ltb-true, ltb-false, leb-false, eqb-true, not-false, le-ltb, lt-leb, eq-eqb}
-use Rattle.link.specs.Least.{least, some}
-use Rattle.link.specs.Limits.{maxPeriod, maxDelay, maxRows, maxExactRows, badPeriod, badSize, badDelay, badRows, badLength}
-use Rattle.link.specs.Limits.{tooManyRows, badOffset, noOffset}
-use Rattle.link.specs.Refusal.{first, outside, andThen, linkFaults, rowFaults, tableFaults, offsetFaults, planFaults, roomFaults}
-use Rattle.link.specs.Refusal.{plannerFaults, exactFaults}
+use Rattle.ground.specs.Judging.{first, andThen, outside}
+use Rattle.ground.specs.Least.{some}
+use Rattle.ground.specs.declared.Judged.the-variants.{Fine, Fault}
+use Rattle.ground.proofs.Minimum.{none-has, some-none}
+use Rattle.ground.proofs.Faults.{fine, pass, passed, front-pass, front-fine, inside, within, allNumbers, number-of}
+use Rattle.link.specs.Limits.{maxPeriod, maxDelay, maxRows, badPeriod, badSize, badDelay, badRows, badLength, badOffset, noOffset}
+use Rattle.link.specs.Refusal.{linkFaults, rowFaults, tableFaults, offsetFaults, planFaults, roomFaults, plannerFaults}
 use Rattle.link.specs.Range.{GoodTable, GoodPlan, InRange}
 use Rattle.link.specs.Rows.{spanOf}
 use Rattle.link.specs.declared.Link.{Link}
-use Rattle.link.specs.declared.Judged.{Judged}
-use Rattle.link.specs.declared.Judged.the-variants.{Fine, Fault}
-use Rattle.link.proofs.Bools.{or-none}
-use Rattle.link.proofs.Minimum.{none-has, some-none}
-use Rattle.link.proofs.Faults.{fine, pass, passed, front-pass, front-fine, inside, allNumbers, number-of}
-
--- and what the test of a range says
-pub within : (lo hi x : ℕ) → outside lo hi x ≡ false → (lo ≤ x) × (x ≤ hi)
-unfolding outside
-within lo hi x e = let w = or-none (ltb x lo) (ltb hi x) e in (ltb-false _ _ (w .0), ltb-false _ _ (w .1))
 
 module _ (k : Link) (ds : List ℕ) where
   pub good-table : first (tableFaults k ds) ≡ Fine → GoodTable k ds
@@ -65,22 +57,7 @@ module _ (k : Link) (ds : List ℕ) where
   unfolding roomFaults
   fine-room room g h = front-pass _ _ Fine (sym (fine-table g)) (pass _ _ badLength 0 (le-ltb _ _ h) fine)
 
-  pub good-exact : (room : ℕ) → first (exactFaults k ds room) ≡ Fine → GoodTable k ds × (length ds ≤ room) × (length ds ≤ maxExactRows)
-  unfolding exactFaults
-  good-exact room e =
-      let w = front-fine (plannerFaults k ds room) _ e in
-      let g = good-room room (w .0) in
-      (g .0, g .1, ltb-false _ _ (passed (ltb maxExactRows (length ds)) tooManyRows 0 [] (w .1) .0))
-
-  pub fine-exact : (room : ℕ) → GoodTable k ds → length ds ≤ room → length ds ≤ maxExactRows → Fine ≡ first (exactFaults k ds room)
-  unfolding exactFaults
-  fine-exact room g h m = front-pass _ _ Fine (sym (fine-room room g h)) (pass _ _ tooManyRows 0 (le-ltb _ _ m) fine)
-
   -- the judging gives no number from 13 on
-  pub judged-low : (room n p : ℕ) → first (exactFaults k ds room) ≡ Fault n p → n < noOffset
-  unfolding exactFaults linkFaults rowFaults roomFaults andThen allNumbers
-  judged-low room n p e = ltb-true n noOffset (number-of (λ m. ltb m noOffset) (exactFaults k ds room) n p refl e)
-
   pub planner-low : (room n p : ℕ) → first (plannerFaults k ds room) ≡ Fault n p → n < noOffset
   unfolding linkFaults rowFaults roomFaults andThen allNumbers
   planner-low room n p e = ltb-true n noOffset (number-of (λ m. ltb m noOffset) (plannerFaults k ds room) n p refl e)

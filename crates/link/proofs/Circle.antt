@@ -1,16 +1,16 @@
 -- When two messages on the circle of p slots use a common slot: the difference test and the linear test. Assumes nothing.
-use mathlib.Core.Path.{_≡_, refl, sym, _∙_, ap, subst}
-use mathlib.Core.Bool.{Bool, true, false, not, _&&_, cond}
+use mathlib.Core.Path.{_≡_, refl, sym, _∙_, subst}
+use mathlib.Core.Bool.{Bool, true, false, not, _&&_}
 use mathlib.Core.Logic.{_⊎_, inl, inr, ⊎-elim}
-use Prim.Native.Nat.{ℕ, zero, suc, _+_, _-_, _%_, _≤_, _<_}
+use Prim.Native.Nat.{ℕ, _+_, _-_, _%_, _≤_, _<_}
 use native.Mathlib.Omega.{arith}
 use native.Mathlib.Nat.{mod-lt, mod-eq-of-lt, mod-eq-sub-mod}
-use lib.Dec.{ltb, leb, eqb}
-use borrow.Author.Tests.{ltb-true, ltb-false, lt-ltb, le-ltb, leb-true, leb-false, le-leb, lt-leb, eqb-true, eq-eqb}
-use Rattle.link.specs.Least.{least, some}
+use lib.Dec.{leb, eqb}
+use borrow.Author.Tests.{ltb-true, leb-true, le-leb, eqb-true, eq-eqb}
+use Rattle.ground.specs.Least.{least, some}
 use Rattle.link.specs.Slots.{uses, meets, differ, gap, apartb, Uses, Meet}
-use Rattle.link.proofs.Bools.{clash, is-false, lt-or-ge, same-test, and-parts, and-both}
-use Rattle.link.proofs.Minimum.{some-at, some-none, some-has, least-is}
+use Rattle.ground.proofs.Bools.{clash, is-false, lt-or-ge, same-test, and-parts, and-both}
+use Rattle.ground.proofs.Minimum.{some-at, some-none, some-has}
 
 abbrev pub Apart : ℕ → ℕ → ℕ → ℕ → Type 0
 Apart p l a b = (l ≤ gap a b) × (gap a b + l ≤ p)

@@ -1,6 +1,6 @@
 -- How code shows which row is met first, and what that says of a plan. Assumes nothing.
-use mathlib.Core.Path.{_≡_, refl, sym, _∙_, ap}
-use mathlib.Core.Bool.{Bool, true, false, not, cond, _||_, or-true}
+use mathlib.Core.Path.{_≡_, refl, sym, _∙_}
+use mathlib.Core.Bool.{Bool, true, false, not, cond, or-true}
 use mathlib.Core.List.{List}
 use Prim.Native.Nat.{ℕ, _<_, _≤_}
 use native.Mathlib.Omega.{arith}
@@ -8,14 +8,14 @@ use native.Mathlib.Nat.{mod-lt}
 use lib.ListN.{length, getD, take}
 use lib.Seq.{length-take-le, getD-take}
 use borrow.Author.Tests.{ltb-true}
-use Rattle.link.specs.Least.{least, some}
+use Rattle.ground.specs.Least.{least, some}
 use Rattle.link.specs.Rows.{Crossing, one, two, numbered, second, startAt, start, hits, either, free, firstHit, metAt, near}
 use Rattle.link.specs.Rows.{firstNear, isNobody}
 use Rattle.link.specs.declared.Met.{Met}
 use Rattle.link.specs.declared.Met.the-variants.{Nobody, Row}
-use Rattle.link.proofs.Bools.{clash}
+use Rattle.ground.proofs.Bools.{clash, never}
 use Rattle.link.proofs.Circle.{meets-apart}
-use Rattle.link.proofs.Minimum.{least-at, least-is, least-cong, some-at, some-none, some-has}
+use Rattle.ground.proofs.Minimum.{least-at, least-is, least-cong, some-at, some-none, some-has}
 
 module _ (h : Crossing → ℕ → Bool) where
   pub neither : (i : ℕ) → h one i ≡ false → h two i ≡ false → either h i ≡ false
@@ -106,14 +106,6 @@ pub record FirstHit (h : Crossing → ℕ → Bool) (n i : ℕ) (c : Crossing) :
   pub here : h c i ≡ true
   pub first : (x : Crossing) → h x i ≡ true → numbered c ≤ numbered x
 
-abbrev rowOf : Met → ℕ
-rowOf Nobody = 0
-rowOf (Row i c) = i
-
-abbrev crossingOf : Met → ℕ
-crossingOf Nobody = 0
-crossingOf (Row i c) = c
-
 -- what `firstHit` names is that row and that crossing
 pub hit-is : (h : Crossing → ℕ → Bool) (n i m : ℕ) → firstHit h n ≡ Row i m → (c : Crossing) × (m ≡ numbered c) × FirstHit h n i c
 unfolding firstHit either
@@ -139,5 +131,5 @@ hit-is h n i m e = go (some (either h) n) refl e
 
     go : (b : Bool) → some (either h) n ≡ b → cond b (Row at (cond (h one at) 1 2)) Nobody ≡ Row i m
         → (c : Crossing) × (m ≡ numbered c) × FirstHit h n i c
-    go true f g = pick (h one at) refl (ltb-true _ _ f) (some-has (either h) n f) (sym (ap rowOf g)) (sym (ap crossingOf g))
-    go false f g = clash (sym (ap isNobody g)) refl
+    go true f g = pick (h one at) refl (ltb-true _ _ f) (some-has (either h) n f) (cc) (cc)
+    go false f g = never (cc)

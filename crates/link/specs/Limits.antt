@@ -1,4 +1,4 @@
--- Document 01's ranges ("Quantities") and its refusal numbers, by name.
+-- Document 01's ranges ("Quantities"), and the refusal numbers that calls share, by name. A crate's own numbers stand in that crate.
 use Prim.Native.Nat.{ℕ}
 
 -- "period P, in slots: 1 to 1,000,000"
@@ -9,30 +9,11 @@ maxPeriod = 1000000
 abbrev pub maxDelay : ℕ
 maxDelay = 16777215
 
--- "rows n: 1 to 64; exact planner 1 to 8"
+-- "rows n: 1 to 64"
 abbrev pub maxRows : ℕ
 maxRows = 64
 
-abbrev pub maxExactRows : ℕ
-maxExactRows = 8
-
--- "text: at most 1,024 bytes"
-abbrev pub maxText : ℕ
-maxText = 1024
-
--- "Refusal numbers", line by line
-abbrev pub longText : ℕ
-longText = 1
-
-abbrev pub badLineOne : ℕ
-badLineOne = 2
-
-abbrev pub cutLine : ℕ
-cutLine = 3
-
-abbrev pub badLine : ℕ
-badLine = 4
-
+-- "Refusal numbers"
 abbrev pub badPeriod : ℕ
 badPeriod = 5
 
@@ -45,29 +26,11 @@ badDelay = 7
 abbrev pub badRows : ℕ
 badRows = 8
 
-abbrev pub badCount : ℕ
-badCount = 9
-
-abbrev pub bytesAfter : ℕ
-bytesAfter = 10
-
 abbrev pub badLength : ℕ
 badLength = 11
 
-abbrev pub tooManyRows : ℕ
-tooManyRows = 12
-
 abbrev pub noOffset : ℕ
 noOffset = 13
-
-abbrev pub noBuild : ℕ
-noBuild = 14
-
-abbrev pub budgetSpent : ℕ
-budgetSpent = 15
-
-abbrev pub badFile : ℕ
-badFile = 16
 
 abbrev pub badOffset : ℕ
 badOffset = 17

@@ -3,7 +3,7 @@ use mathlib.Core.Bool.{Bool, true, false, not, cond, _||_}
 use mathlib.Core.List.{List}
 use Prim.Native.Nat.{ℕ, _+_, _%_, _<_}
 use lib.ListN.{length, getD}
-use Rattle.link.specs.Least.{least, some}
+use Rattle.ground.specs.Least.{least, some}
 use Rattle.link.specs.Slots.{meets, apartb, Meet}
 use Rattle.link.specs.declared.Link.{Link}
 use Rattle.link.specs.declared.Met.{Met}
@@ -33,9 +33,14 @@ startAt p two d a = second p d a
 unfoldable pub start : ℕ → List ℕ → List ℕ → Crossing → ℕ → ℕ
 start p ds os c i = startAt p c (getD ds i 0) (getD os i 0)
 
+-- no two rows meet in the crossing c
+pub record ClearIn (p l : ℕ) (ds os : List ℕ) (c : Crossing) : Type 0 where
+  pub apart : (i j : ℕ) → i < j → j < length ds → Meet p l (start p ds os c i) (start p ds os c j) → ⊥
+
 -- "A plan is clear when, for every two rows, they meet in neither crossing."
 pub record Clear (p l : ℕ) (ds os : List ℕ) : Type 0 where
-  pub apart : (c : Crossing) (i j : ℕ) → i < j → j < length ds → Meet p l (start p ds os c i) (start p ds os c j) → ⊥
+  pub in-one : ClearIn p l ds os one
+  pub in-two : ClearIn p l ds os two
 
 -- row i meets a row of delay d at the offset a, in the crossing c
 unfoldable pub hits : ℕ → ℕ → List ℕ → List ℕ → ℕ → ℕ → Crossing → ℕ → Bool

@@ -3,7 +3,7 @@ use mathlib.Core.Bool.{Bool, _&&_}
 use mathlib.Core.Path.{_≡_}
 use Prim.Native.Nat.{ℕ, _+_, _-_, _%_, _<_}
 use lib.Dec.{leb, eqb}
-use Rattle.link.specs.Least.{some}
+use Rattle.ground.specs.Least.{some}
 
 -- "uses .. the T slots A, A+1, .., A+T-1, each modulo P"
 unfoldable pub uses : ℕ → ℕ → ℕ → ℕ → Bool

@@ -1,5 +1,4 @@
 // The judging of values: every call on values goes through `table` first.
-use crate::Judged;
 use crate::Link;
 use crate::limits::BAD_DELAY;
 use crate::limits::BAD_LENGTH;
@@ -8,15 +7,15 @@ use crate::limits::BAD_PERIOD;
 use crate::limits::BAD_ROWS;
 use crate::limits::BAD_SIZE;
 use crate::limits::MAX_DELAY;
-use crate::limits::MAX_EXACT_ROWS;
 use crate::limits::MAX_PERIOD;
 use crate::limits::MAX_ROWS;
-use crate::limits::TOO_MANY_ROWS;
+use ground::Judged;
 ghost use mathlib.Core.Path.{_≡_};
 ghost use lib.Dec.{leb};
 ghost use lib.ListN.{length, getD};
-ghost use Rattle.link.specs.Least.{least};
-ghost use Rattle.link.specs.Refusal.{outside, first, linkFaults, rowFaults, tableFaults, offsetFaults, planFaults, plannerFaults, exactFaults};
+ghost use Rattle.ground.specs.Least.{least};
+ghost use Rattle.ground.specs.Judging.{outside, first};
+ghost use Rattle.link.specs.Refusal.{linkFaults, rowFaults, tableFaults, offsetFaults, planFaults, plannerFaults};
 
 // x is not one of lo .. hi.
 fn is_outside(lo: u32, hi: u32, x: u32) -> bool
@@ -108,24 +107,6 @@ pub fn planner(link: Link, delays: &[u32], room: usize) -> Judged
             if room < delays.len() {
                 return Judged::Fault {
                     number: BAD_LENGTH,
-                    place: 0,
-                };
-            }
-            Judged::Fine
-        }
-    }
-}
-
-// The same for the exact planner: 5, 6, 8, 7, 11, 12.
-pub fn exact(link: Link, delays: &[u32], room: usize) -> Judged
-    ensures { λ r. ⌜ r ≡ first (exactFaults link (now (delays .entry)) room) ⌝ }
-{
-    match planner(link, delays, room) {
-        Judged::Fault { number, place } => Judged::Fault { number, place },
-        Judged::Fine => {
-            if delays.len() > MAX_EXACT_ROWS {
-                return Judged::Fault {
-                    number: TOO_MANY_ROWS,
                     place: 0,
                 };
             }

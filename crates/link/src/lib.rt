@@ -4,20 +4,13 @@ pub mod limits;
 
 ghost use mathlib.Core.Path.{_≡_};
 ghost use Prim.Native.Nat.{_<_, _≤_};
-ghost use mathlib.Core.List.{_++_};
-ghost use lib.ListN.{length, drop};
+ghost use lib.ListN.{length};
 ghost use Rattle.link.specs.Slots.{apartb};
 ghost use Rattle.link.specs.Rows.{spanOf, second, firstNear};
 
 pub struct Link {
     pub period: u32,
     pub size: u32,
-}
-
-// What the judging of values says.
-pub enum Judged {
-    Fine,
-    Fault { number: u32, place: usize },
 }
 
 // The least earlier row that is met, and the crossing.
@@ -96,16 +89,4 @@ pub fn first_met(period: u32, span: u32, firsts: &[u32], seconds: &[u32], a: u32
         i += 1;
     }
     Met::Nobody
-}
-
-// The front of `to` is replaced by `from`.
-pub fn copy_out(from: &[u32], to: &mut [u32])
-    requires { ⌜ length (now from) ≤ length (now to) ⌝ }
-    ensures { λ _. ⌜ now (to .exit) ≡ now (from .entry) ++ drop (length (now (from .entry))) (now (to .entry)) ⌝ }
-{
-    let mut i = 0;
-    while i < from.len() {
-        to[i] = from[i];
-        i += 1;
-    }
 }

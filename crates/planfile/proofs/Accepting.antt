@@ -7,9 +7,9 @@ use lib.Dec.{ltb}
 use lib.ListN.{drop}
 use borrow.Author.Tests.{ltb-false}
 use Rattle.link.specs.Limits.{maxPeriod, maxRows, badPeriod, badSize, badRows}
-use Rattle.link.specs.Refusal.{outside}
+use Rattle.ground.specs.Judging.{outside}
 use Rattle.link.specs.declared.Link.{Link}
-use Rattle.link.proofs.Bools.{clash, or-none}
+use Rattle.ground.proofs.Bools.{clash, or-none}
 use Rattle.planfile.specs.Number.{readNumber}
 use Rattle.planfile.specs.Reading.{Step, got, stopped, passing, ranged, number, Head, header}
 use Rattle.planfile.specs.declared.Number.{Number}

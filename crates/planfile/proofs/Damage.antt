@@ -9,7 +9,7 @@ use lib.Seq.{take-append-le, take-append-add}
 use Rattle.link.specs.Limits.{maxPeriod, maxDelay, maxRows, badPeriod, badSize, badDelay, badRows, badOffset, badFile}
 use Rattle.link.specs.Range.{GoodTable, GoodPlan}
 use Rattle.link.specs.declared.Link.{Link}
-use Rattle.link.proofs.Bools.{lt-or-ge}
+use Rattle.ground.proofs.Bools.{lt-or-ge}
 use Rattle.planfile.specs.Causes.{cutOff}
 use Rattle.planfile.specs.Number.{numberBytes, formFault}
 use Rattle.planfile.specs.Format.{tag, headerBytes, rowsBytes, planBytes}

@@ -9,7 +9,7 @@ use lib.Dec.{ltb, eqb}
 use lib.ListN.{length, take, drop, length-drop}
 use lib.Seq.{getD-drop}
 use borrow.Author.Tests.{lt-ltb, le-ltb, ne-eqb, ltb-true, ltb-false, eqb-true, eqb-false}
-use Rattle.link.proofs.Bools.{clash, lt-or-ge}
+use Rattle.ground.proofs.Bools.{clash, lt-or-ge}
 use Rattle.planfile.specs.Bytes.{Bytes}
 use Rattle.planfile.specs.Number.{moreGroups, limit, groups, numberBytes, ending, onto, groupsRead, readNumber}
 use Rattle.planfile.specs.declared.Number.{Number}

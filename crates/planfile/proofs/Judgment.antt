@@ -7,13 +7,14 @@ use Prim.Native.Nat.{ℕ, _<_}
 use lib.ListN.{length}
 use borrow.Author.Tests.{not-false}
 use Rattle.link.specs.Limits.{notClear}
-use Rattle.link.specs.Refusal.{first, planFaults}
+use Rattle.ground.specs.Judging.{first}
+use Rattle.link.specs.Refusal.{planFaults}
 use Rattle.link.specs.Range.{GoodPlan}
 use Rattle.link.specs.Rows.{spanOf, Clear}
 use Rattle.link.specs.declared.Link.{Link}
-use Rattle.link.specs.declared.Judged.{Judged}
-use Rattle.link.specs.declared.Judged.the-variants.{Fine, Fault}
-use Rattle.link.proofs.Bools.{clash}
+use Rattle.ground.specs.declared.Judged.{Judged}
+use Rattle.ground.specs.declared.Judged.the-variants.{Fine, Fault}
+use Rattle.ground.proofs.Bools.{clash}
 use Rattle.link.proofs.Accepted.{good-plan, fine-plan}
 use Rattle.link.proofs.Clearness.{clear-rows, rows-clear}
 use Rattle.checker.specs.Answer.{Said, clearly, blocked, named, unless, answer}

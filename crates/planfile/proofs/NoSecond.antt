@@ -3,7 +3,7 @@ use mathlib.Core.Path.{_≡_, refl, sym, _∙_}
 use mathlib.Core.List.{List}
 use Prim.Native.Nat.{ℕ}
 use Rattle.link.specs.declared.Link.{Link}
-use Rattle.link.proofs.Unique as unique
+use Rattle.ground.proofs.Answers as unique
 use Rattle.planfile.specs.Answer.{Verdict, done, refusal, ReadSaid, readSaid, readGives, WrittenSaid, writtenSaid, writeGives}
 use Rattle.planfile.specs.declared.PlanRead.{PlanRead}
 use Rattle.planfile.specs.declared.PlanRead.the-variants.{Plan, Refused as ReadRefused}

@@ -10,7 +10,7 @@ use lib.ListN.{length, getD, drop, set, drop-of-length-le}
 use lib.Seq.{drop-cons, take-suc-set}
 use borrow.Author.Tests.{lt-ltb, le-ltb, eq-eqb, ne-eqb, ltb-true, eqb-false}
 use Rattle.link.specs.Limits.{maxDelay}
-use Rattle.link.proofs.Bools.{clash}
+use Rattle.ground.proofs.Bools.{clash}
 use Rattle.planfile.specs.Format.{Put}
 use Rattle.planfile.specs.Number.{moreGroups, limit, groups, numberBytes, ending, onto, groupsRead}
 use Rattle.planfile.specs.declared.Number.{Number}

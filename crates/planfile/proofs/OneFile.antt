@@ -11,9 +11,9 @@ use borrow.Author.Tests.{ltb-false, eqb-true}
 use Rattle.link.specs.Limits.{maxDelay, badDelay, badOffset}
 use Rattle.link.specs.Range.{GoodPlan}
 use Rattle.link.specs.declared.Link.{Link}
-use Rattle.link.specs.declared.Judged.{Judged}
-use Rattle.link.specs.declared.Judged.the-variants.{Fine, Fault}
-use Rattle.link.proofs.Bools.{clash, and-parts}
+use Rattle.ground.specs.declared.Judged.{Judged}
+use Rattle.ground.specs.declared.Judged.the-variants.{Fine, Fault}
+use Rattle.ground.proofs.Bools.{clash, and-parts}
 use Rattle.planfile.specs.Bytes.{Bytes}
 use Rattle.planfile.specs.Causes.{wrongTag, leftOver}
 use Rattle.planfile.specs.Number.{numberBytes}

@@ -8,8 +8,8 @@ use native.Mathlib.Numerals.{add-one}
 use lib.ListN.{length, getD, take, drop, set, drop-of-length-le, length-drop, length-set}
 use lib.Seq.{drop-cons, take-suc-set}
 use borrow.Author.Tests.{eq-eqb, ne-eqb}
-use Rattle.link.proofs.Bools.{clash}
-use Rattle.link.proofs.Faults.{below, above, inside}
+use Rattle.ground.proofs.Bools.{clash}
+use Rattle.ground.proofs.Faults.{below, above, inside}
 use Rattle.planfile.specs.Number.{readNumber, formFault}
 use Rattle.planfile.specs.Reading.{got, stopped, begins, ranged, number, row, rows}
 use Rattle.planfile.specs.declared.Number.{Number}

@@ -5,10 +5,11 @@ use Prim.Native.Nat.{ℕ}
 use native.Mathlib.Omega.{arith}
 use lib.ListN.{take, replicate}
 use Rattle.link.specs.Limits.{badFile}
-use Rattle.link.specs.Least.{least, oneMore}
+use Rattle.ground.specs.Least.{least, oneMore}
 use Rattle.link.specs.Slots.{uses, meets}
 use Rattle.link.specs.Rows.{start, second, hits, either, free}
-use Rattle.link.specs.Refusal.{first, outside, andThen, linkFaults, rowFaults, offsetFaults}
+use Rattle.ground.specs.Judging.{first, outside, andThen}
+use Rattle.link.specs.Refusal.{linkFaults, rowFaults, offsetFaults}
 use Rattle.link.specs.declared.Link.{Link}
 use Rattle.checker.specs.Answer.{blocked, named, answer}
 use Rattle.planfile.specs.Number.{groups, numberBytes, ending, onto, groupsRead, readNumber}

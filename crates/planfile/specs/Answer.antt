@@ -7,8 +7,8 @@ use lib.Dec.{ltb}
 use lib.ListN.{length, drop, take}
 use Rattle.link.specs.Limits.{badLength}
 use Rattle.link.specs.declared.Link.{Link}
-use Rattle.link.specs.declared.Judged.{Judged}
-use Rattle.link.specs.declared.Judged.the-variants.{Fine, Fault}
+use Rattle.ground.specs.declared.Judged.{Judged}
+use Rattle.ground.specs.declared.Judged.the-variants.{Fine, Fault}
 use Rattle.planfile.specs.Format.{planBytes}
 use Rattle.planfile.specs.Reading.{Step, got, stopped, Head, Row, Rows, Meaning, plan, refused, closing, meaning, judgment}
 use Rattle.planfile.specs.declared.Taken.{Taken}

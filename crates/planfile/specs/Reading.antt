@@ -5,10 +5,10 @@ use Prim.Native.Nat.{ℕ, zero, suc, _+_, _-_}
 use lib.Dec.{ltb, eqb}
 use lib.ListN.{length, drop}
 use Rattle.link.specs.Limits.{maxPeriod, maxDelay, maxRows, badPeriod, badSize, badDelay, badRows, badOffset, notClear}
-use Rattle.link.specs.Refusal.{outside}
+use Rattle.ground.specs.Judging.{outside}
 use Rattle.link.specs.declared.Link.{Link}
-use Rattle.link.specs.declared.Judged.{Judged}
-use Rattle.link.specs.declared.Judged.the-variants.{Fine, Fault}
+use Rattle.ground.specs.declared.Judged.{Judged}
+use Rattle.ground.specs.declared.Judged.the-variants.{Fine, Fault}
 use Rattle.checker.specs.Answer.{Verdict, clear, collision, refusal, Said, answer}
 use Rattle.planfile.specs.Causes.{wrongTag, leftOver}
 use Rattle.planfile.specs.Number.{readNumber, formFault}

@@ -6,7 +6,7 @@ mod writer;
 
 use crate::causes::WRONG_TAG;
 use crate::writer::ROOM;
-use link::Judged;
+use ground::Judged;
 use link::Link;
 use link::limits::BAD_LENGTH;
 use link::limits::MAX_ROWS;

@@ -8,7 +8,7 @@ use crate::Taken;
 use crate::causes::LEFT_OVER;
 use crate::groups;
 use crate::writer;
-use link::Judged;
+use ground::Judged;
 use link::Link;
 use link::limits::BAD_DELAY;
 use link::limits::BAD_LENGTH;
@@ -191,8 +191,8 @@ pub fn close(
                     place: 0,
                 };
             }
-            link::copy_out(ds, delays);
-            link::copy_out(os, offsets);
+            ground::copy_out(ds, delays);
+            ground::copy_out(os, offsets);
             PlanRead::Plan {
                 link,
                 rows: ds.len(),

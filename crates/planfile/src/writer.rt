@@ -1,7 +1,7 @@
 // The writer's steps.
 use crate::groups;
 use checker::Checked;
-use link::Judged;
+use ground::Judged;
 use link::Link;
 use link::limits::MAX_ROWS;
 use link::limits::NOT_CLEAR;

@@ -1,9 +1,8 @@
 -- The candidates 0, step, .., (count-1) step. Assumes nothing.
-use mathlib.Core.Path.{_≡_, sym, ap, _∙_, subst}
+use mathlib.Core.Path.{_≡_, ap, _∙_, subst}
 use mathlib.Core.List.{List}
-use Prim.Native.Nat.{ℕ, suc, _+_, _*_, _%_, _≤_, _<_}
-use native.Mathlib.Omega.{arith}
-use native.Mathlib.Nat.{suc-mul, mul-le-mul-right, mod-add-mod, add-assoc, add-comm, add-right-comm}
+use Prim.Native.Nat.{ℕ, _+_, _*_, _%_, _≤_, _<_}
+use native.Mathlib.Nat.{suc-mul, mul-le-mul-right, mod-add-mod, add-right-comm}
 use native.Mathlib.Numerals.{add-one}
 use Rattle.link.specs.Rows.{second, firstNear, isNobody}
 use Rattle.link.specs.declared.Met.{Met}

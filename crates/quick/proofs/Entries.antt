@@ -1,16 +1,16 @@
 -- First Fit and Meta-Offset as the planner over (1, P) and (T, P div T). Assumes nothing.
-use mathlib.Core.Path.{_≡_, refl, _∙_}
+use mathlib.Core.Path.{_≡_}
 use mathlib.Core.List.{List}
 use Prim.Native.Nat.{ℕ, _/_}
 use native.Mathlib.Omega.{arith}
 use native.Mathlib.Nat.{mul-one, div-mul-le-self}
 use lib.ListN.{length}
 use Rattle.link.specs.Range.{GoodTable}
-use Rattle.link.specs.Refusal.{first, plannerFaults}
+use Rattle.ground.specs.Judging.{first}
+use Rattle.link.specs.Refusal.{plannerFaults}
 use Rattle.link.specs.Rows.{spanOf}
 use Rattle.link.specs.declared.Link.{Link}
-use Rattle.link.specs.declared.Judged.{Judged}
-use Rattle.link.specs.declared.Judged.the-variants.{Fine, Fault}
+use Rattle.ground.specs.declared.Judged.the-variants.{Fine, Fault}
 use Rattle.quick.specs.Plan.{placed}
 use Rattle.quick.specs.Answer.{Outcome, gives, says, refusal, outcome, quick}
 use Rattle.quick.specs.Ways.{Ways}

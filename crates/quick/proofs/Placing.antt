@@ -9,11 +9,11 @@ use lib.ListN.{length, getD, take, set, length-set}
 use lib.Seq.{getD-take, take-suc-set, getD-set-same, getD-set-other}
 use borrow.Author.Count.{below-more, below-none}
 use borrow.Author.Tests.{lt-ltb, le-ltb}
-use Rattle.link.specs.Least.{least}
+use Rattle.ground.specs.Least.{least}
 use Rattle.link.specs.Limits.{maxRows}
 use Rattle.link.specs.Rows.{second, start, isNobody}
-use Rattle.link.proofs.Bools.{lt-or-ge}
-use Rattle.link.proofs.Minimum.{least-cong}
+use Rattle.ground.proofs.Bools.{lt-or-ge}
+use Rattle.ground.proofs.Minimum.{least-cong}
 use Rattle.link.proofs.Meeting.{Starts, told, nobody-free}
 use Rattle.quick.specs.Plan.{freeAt, rows, stuck, place, placed}
 use Rattle.quick.specs.Ways.{Ways, openTo}

@@ -2,24 +2,24 @@
 use mathlib.Core.Path.{_≡_, refl, sym, ap, _∙_}
 use mathlib.Core.Bool.{Bool, true, false}
 use mathlib.Core.Logic.{_↔_}
-use mathlib.Core.List.{List, _++_}
-use Prim.Native.Nat.{ℕ, _*_, _/_, _≤_, _<_}
+use mathlib.Core.List.{List}
+use Prim.Native.Nat.{ℕ, _<_}
 use native.Mathlib.Omega.{arith}
-use lib.ListN.{length, getD, drop}
+use lib.ListN.{length}
 use Rattle.link.specs.Limits.{noOffset}
-use Rattle.link.specs.Range.{GoodTable}
-use Rattle.link.specs.Refusal.{first, plannerFaults}
-use Rattle.link.specs.Least.{least}
+use Rattle.ground.specs.Judging.{first}
+use Rattle.link.specs.Refusal.{plannerFaults}
+use Rattle.ground.specs.Least.{least}
 use Rattle.link.specs.Rows.{spanOf, free, Clear}
 use Rattle.link.specs.declared.Link.{Link}
-use Rattle.link.specs.declared.Judged.{Judged}
-use Rattle.link.specs.declared.Judged.the-variants.{Fine, Fault}
+use Rattle.ground.specs.declared.Judged.{Judged}
+use Rattle.ground.specs.declared.Judged.the-variants.{Fine, Fault}
 use Rattle.link.proofs.Accepted.{good-room, fine-room, planner-low}
-use Rattle.link.proofs.Bools.{clash}
+use Rattle.ground.proofs.Bools.{clash}
 use Rattle.link.proofs.Clearness.{clear-rows}
-use Rattle.link.proofs.Unique as unique
+use Rattle.ground.proofs.Answers as unique
 use Rattle.quick.specs.Plan.{freeAt, Progress, rows, stuck, placed}
-use Rattle.quick.specs.Right.{LeastFree, Placed, Stuck, GivenPlan, NoOffset}
+use Rattle.quick.specs.Right.{Placed, GivenPlan, NoOffset}
 use Rattle.quick.specs.Answer.{Verdict, plan, refusal, Said, says, said, Outcome, gives, outcome, unless, quick}
 use Rattle.quick.specs.declared.Planned.{Planned}
 use Rattle.quick.specs.declared.Planned.the-variants.{Plan, Refused}

@@ -9,10 +9,10 @@ use native.Mathlib.Numerals.{add-one}
 use lib.ListN.{length, getD, take, length-append, List·getD-append}
 use lib.Seq.{getD-at, getD-take, take-suc, take-length}
 use borrow.Author.Tests.{ltb-true}
-use Rattle.link.specs.Least.{least, some}
-use Rattle.link.proofs.Bools.{clash, lt-or-ge}
+use Rattle.ground.specs.Least.{least, some}
+use Rattle.ground.proofs.Bools.{lt-or-ge}
 use Rattle.link.proofs.Clearness.{free-cong}
-use Rattle.link.proofs.Minimum.{least-is, least-at, none-has, some-none, some-has, some-at}
+use Rattle.ground.proofs.Minimum.{least-is, least-at, none-has, some-none, some-has, some-at}
 use Rattle.quick.specs.Plan.{freeAt, Progress, rows, stuck, place, placed}
 use Rattle.quick.specs.Right.{LeastFree, Placed, Stuck}
 use Rattle.quick.proofs.Placing.{stays}

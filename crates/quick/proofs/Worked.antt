@@ -2,16 +2,16 @@
 use mathlib.Core.Path.{_≡_, refl}
 use mathlib.Core.List.{List, [], _∷_}
 use Prim.Native.Nat.{ℕ}
-use Rattle.link.specs.Least.{oneMore, least}
+use Rattle.ground.specs.Least.{oneMore, least}
 use Rattle.link.specs.Limits.{noOffset}
-use Rattle.link.specs.Refusal.{first, outside, andThen, linkFaults, rowFaults, roomFaults}
-use Rattle.link.specs.Rows.{second, start, hits, either, free, Clear}
+use Rattle.ground.specs.Judging.{first, outside, andThen}
+use Rattle.link.specs.Refusal.{linkFaults, rowFaults, roomFaults}
+use Rattle.link.specs.Rows.{second, start, hits, either, free}
 use Rattle.link.specs.Slots.{uses, meets}
 use Rattle.link.specs.declared.Link.{Link}
 use Rattle.quick.specs.Answer.{gives, said, outcome, quick, firstFit, metaOffset}
 use Rattle.quick.specs.Plan.{freeAt, place, placed}
 use Rattle.quick.specs.Right.{GivenPlan, NoOffset}
-use Rattle.quick.specs.declared.Planned.{Planned}
 use Rattle.quick.specs.declared.Planned.the-variants.{Plan, Refused}
 use Rattle.quick.proofs.Promises.{plan-is-right, thirteen-exactly}
 

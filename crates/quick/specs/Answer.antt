@@ -4,10 +4,11 @@ use Prim.Native.Nat.{ℕ, _/_}
 use lib.ListN.{length, drop}
 use Rattle.link.specs.Limits.{noOffset}
 use Rattle.link.specs.Rows.{spanOf}
-use Rattle.link.specs.Refusal.{first, plannerFaults}
+use Rattle.ground.specs.Judging.{first}
+use Rattle.link.specs.Refusal.{plannerFaults}
 use Rattle.link.specs.declared.Link.{Link}
-use Rattle.link.specs.declared.Judged.{Judged}
-use Rattle.link.specs.declared.Judged.the-variants.{Fine, Fault}
+use Rattle.ground.specs.declared.Judged.{Judged}
+use Rattle.ground.specs.declared.Judged.the-variants.{Fine, Fault}
 use Rattle.quick.specs.Plan.{Progress, rows, stuck, placed}
 use Rattle.quick.specs.declared.Planned.{Planned}
 use Rattle.quick.specs.declared.Planned.the-variants.{Plan, Refused}

@@ -4,7 +4,7 @@ use mathlib.Core.Bool.{Bool, cond}
 use mathlib.Core.List.{List, [], _∷_, _++_}
 use Prim.Native.Nat.{ℕ, zero, suc, _*_}
 use lib.ListN.{getD}
-use Rattle.link.specs.Least.{least, some}
+use Rattle.ground.specs.Least.{least, some}
 use Rattle.link.specs.Rows.{free}
 
 -- the offset c step is free for row j, where os has the offsets of the rows before

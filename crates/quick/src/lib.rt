@@ -1,5 +1,5 @@
 // First Fit and Meta-Offset: one planner over the offsets 0, step, .., (count-1) step.
-use link::Judged;
+use ground::Judged;
 use link::Link;
 use link::Met;
 use link::limits::MAX_ROWS;
@@ -8,7 +8,7 @@ ghost use mathlib.Core.Path.{_≡_};
 ghost use Prim.Native.Nat.{_≤_};
 ghost use lib.ListN.{length};
 ghost use Rattle.link.specs.Limits.{maxRows};
-ghost use Rattle.link.specs.Least.{least};
+ghost use Rattle.ground.specs.Least.{least};
 ghost use Rattle.quick.specs.Plan.{placed};
 ghost use Rattle.quick.specs.Answer.{said, gives, outcome, firstFit, metaOffset};
 ghost use Rattle.quick.specs.Ways.{Ways, openTo};
@@ -79,7 +79,7 @@ fn plan(
         seconds[j] = b;
         j += 1;
     }
-    link::copy_out(&firsts[..j], offsets);
+    ground::copy_out(&firsts[..j], offsets);
     Planned::Plan
 }
 

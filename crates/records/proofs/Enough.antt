@@ -8,12 +8,13 @@ use lib.ListN.{length, take}
 use lib.Seq.{length-take-le, take-all}
 use borrow.Author.Tests.{lt-ltb, le-ltb}
 use Rattle.link.specs.Limits.{maxRows, badRows}
-use Rattle.link.specs.Refusal.{first, andThen, linkFaults, rowFaults, tableFaults, offsetFaults}
+use Rattle.ground.specs.Judging.{first, andThen}
+use Rattle.link.specs.Refusal.{linkFaults, rowFaults, tableFaults, offsetFaults}
 use Rattle.link.specs.declared.Link.{Link}
-use Rattle.link.specs.declared.Judged.{Judged}
-use Rattle.link.specs.declared.Judged.the-variants.{Fine, Fault}
-use Rattle.link.proofs.Bools.{lt-or-ge}
-use Rattle.link.proofs.Faults.{hit, above, first-append, orElse}
+use Rattle.ground.specs.declared.Judged.{Judged}
+use Rattle.ground.specs.declared.Judged.the-variants.{Fine, Fault}
+use Rattle.ground.proofs.Bools.{lt-or-ge}
+use Rattle.ground.proofs.Faults.{hit, above, first-append, orElse}
 use Rattle.checker.specs.Answer.{Said, clearly, unless, answer}
 use Rattle.records.specs.Lists.{room, toRead}
 

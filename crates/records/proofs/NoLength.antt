@@ -7,13 +7,14 @@ use lib.Dec.{eqb, leb}
 use lib.ListN.{length, getD}
 use borrow.Author.Tests.{eq-eqb}
 use Rattle.link.specs.Limits.{badLength, badOffset}
-use Rattle.link.specs.Refusal.{Cause, atRow, first, andThen, linkFaults, rowFaults, tableFaults, offsetFaults, planFaults}
+use Rattle.ground.specs.Judging.{Cause, atRow, first, andThen}
+use Rattle.link.specs.Refusal.{linkFaults, rowFaults, tableFaults, offsetFaults, planFaults}
 use Rattle.link.specs.Rows.{spanOf}
 use Rattle.link.specs.declared.Link.{Link}
-use Rattle.link.specs.declared.Judged.{Judged}
-use Rattle.link.specs.declared.Judged.the-variants.{Fine, Fault}
-use Rattle.link.proofs.Bools.{clash}
-use Rattle.link.proofs.Faults.{pass, first-append, orElse, allNumbers, number-of}
+use Rattle.ground.specs.declared.Judged.{Judged}
+use Rattle.ground.specs.declared.Judged.the-variants.{Fine, Fault}
+use Rattle.ground.proofs.Bools.{clash}
+use Rattle.ground.proofs.Faults.{pass, first-append, orElse, allNumbers, number-of}
 use Rattle.checker.specs.Answer.{Said, Verdict, clear, collision, refusal, refusing, unless, answer}
 use Rattle.checker.proofs.Collisions.{Naming, nobody, earliest, naming}
 

@@ -15,7 +15,7 @@ use denote.Laws.{Is}
 use borrow.Author.Tests.{lt-ltb, le-ltb}
 use Rattle.link.specs.Limits.{maxRows}
 use Rattle.link.specs.declared.Link.{Link}
-use Rattle.link.proofs.Bools.{lt-or-ge}
+use Rattle.ground.proofs.Bools.{lt-or-ge}
 use Rattle.checker.specs.Answer.{answer}
 use Rattle.records.specs.Columns.{delaysOf, offsetsOf}
 use Rattle.records.specs.Lists.{room, toRead, stored}

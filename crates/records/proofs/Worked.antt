@@ -3,9 +3,10 @@ use mathlib.Core.Path.{_≡_, refl}
 use mathlib.Core.List.{List, [], _∷_}
 use Prim.Native.Nat.{ℕ}
 use lib.ListN.{replicate}
-use Rattle.link.specs.Least.{least, oneMore}
+use Rattle.ground.specs.Least.{least, oneMore}
 use Rattle.link.specs.Limits.{badDelay, badRows}
-use Rattle.link.specs.Refusal.{first, outside, andThen, linkFaults, rowFaults, offsetFaults}
+use Rattle.ground.specs.Judging.{first, outside, andThen}
+use Rattle.link.specs.Refusal.{linkFaults, rowFaults, offsetFaults}
 use Rattle.link.specs.Rows.{Clear}
 use Rattle.link.specs.declared.Link.{Link}
 use Rattle.checker.specs.Answer.{said, answer}

@@ -4,7 +4,7 @@ use mathlib.Core.Bool.{Bool, true, false, not, _||_}
 use mathlib.Core.Logic.{⊎-elim}
 use Prim.Native.Nat.{ℕ, zero, suc, _+_, _-_, _≤_, _<_}
 use native.Mathlib.Omega.{arith}
-use Rattle.link.proofs.Bools.{lt-or-ge, is-false, true-or-false}
+use Rattle.ground.proofs.Bools.{lt-or-ge, is-false, true-or-false}
 use Rattle.report.specs.Runs.{countOf}
 
 -- what no number from x to before y changes is at y what it was at x

@@ -10,8 +10,8 @@ use native.Mathlib.Nat.{mod-eq-of-lt}
 use lib.ListN.{length, getD}
 use borrow.Author.Count.{below-more}
 use Rattle.link.specs.Slots.{Uses}
-use Rattle.link.proofs.Bools.{clash, is-false, lt-or-ge}
-use Rattle.link.proofs.Minimum.{some-at, some-none}
+use Rattle.ground.proofs.Bools.{clash, is-false, lt-or-ge}
+use Rattle.ground.proofs.Minimum.{some-at, some-none}
 use Rattle.link.proofs.Circle.{Turned, turned, uses-true, uses-slot}
 use Rattle.report.specs.Free.{usedOf, freeOf}
 use Rattle.report.specs.Steps.{Placed, freeAt, EndsAt, CoveredTo, NextStart, Nearer}

@@ -11,9 +11,9 @@ use borrow.Author.Count.{below-none}
 use Rattle.link.specs.Limits.{maxRows}
 use Rattle.link.specs.Rows.{Crossing, one, two, second, start}
 use Rattle.link.specs.Range.{InRange}
-use Rattle.link.proofs.Filling.{stored}
+use Rattle.ground.proofs.Filling.{stored}
 use Rattle.link.proofs.Meeting.{start-low}
-use Rattle.link.proofs.Minimum.{least-cong}
+use Rattle.ground.proofs.Minimum.{least-cong}
 use Rattle.report.specs.Free.{usedOf, freeOf, isFree, stretchOf}
 use Rattle.report.specs.Steps.{Placed, freeAt}
 use Rattle.report.specs.Answer.{said, telling, told}

@@ -11,8 +11,8 @@ use Rattle.link.specs.Range.{GoodPlan}
 use Rattle.link.specs.Rows.{Crossing, one, two, spanOf, Clear}
 use Rattle.link.specs.declared.Link.{Link}
 use Rattle.link.proofs.Accepted.{in-range}
-use Rattle.link.proofs.Bools.{clash}
-use Rattle.link.proofs.Unique as unique
+use Rattle.ground.proofs.Bools.{clash}
+use Rattle.ground.proofs.Answers as unique
 use Rattle.checker.specs.Answer.{clear, collision, refusal}
 use Rattle.checker.specs.Answer as checker
 use Rattle.checker.specs.declared.Checked.{Checked}

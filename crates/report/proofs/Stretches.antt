@@ -7,7 +7,7 @@ use mathlib.Core.List.{List, [], _∷_, List·Memᴰ, List·Memᴰ·head, List·
 use Prim.Native.Nat.{ℕ, zero, suc, _+_, _-_, _≤_, _<_, max}
 use native.Mathlib.Omega.{arith}
 use lib.ListN.{length}
-use Rattle.link.proofs.Bools.{clash, lt-or-ge, true-or-false}
+use Rattle.ground.proofs.Bools.{clash, lt-or-ge, true-or-false}
 use Rattle.report.specs.Runs.{begins, width, Run, Within, Longest, runsBelow, runs, widestOf}
 use Rattle.report.proofs.Widths.{begins-here, begins-has, begins-after, width-fits, width-each, width-end, width-at, width-more, runs-in, runs-out}
 

@@ -6,7 +6,7 @@ use mathlib.Core.Logic.{⊎-elim}
 use Prim.Native.Nat.{ℕ, zero, suc, _+_, _≤_, _<_}
 use native.Mathlib.Omega.{arith}
 use lib.ListN.{length}
-use Rattle.link.proofs.Bools.{clash, is-false, true-or-false}
+use Rattle.ground.proofs.Bools.{clash, is-false, true-or-false}
 use Rattle.report.specs.Runs.{countOf, begins, width, runsBelow, runs, widestOf, totalOf}
 use Rattle.report.specs.Free.{stretchOf}
 use Rattle.report.specs.Answer.{noStretch}

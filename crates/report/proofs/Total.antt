@@ -9,14 +9,14 @@ use native.Mathlib.Omega.{arith}
 use native.Mathlib.Nat.{zero-mul, suc-mul}
 use lib.ListN.{length}
 use borrow.Author.Tests.{ltb-true}
-use Rattle.link.specs.Least.{least}
+use Rattle.ground.specs.Least.{least}
 use Rattle.link.specs.Range.{InRange}
 use Rattle.link.specs.Rows.{Crossing, start, Clear}
 use Rattle.link.specs.Slots.{uses}
-use Rattle.link.proofs.Bools.{is-false, lt-or-ge}
+use Rattle.ground.proofs.Bools.{is-false, lt-or-ge}
 use Rattle.link.proofs.Circle.{uses-true, uses-slot}
 use Rattle.link.proofs.Meeting.{start-low}
-use Rattle.link.proofs.Minimum.{some-none, some-has, some-more}
+use Rattle.ground.proofs.Minimum.{some-none, some-has, some-more}
 use Rattle.report.specs.Runs.{countOf}
 use Rattle.report.specs.Free.{usedOf, freeOf, isFree}
 use Rattle.report.proofs.Counts.{count-gap, count-run, count-cong, count-or, count-not}

@@ -6,7 +6,7 @@ use Prim.Native.Nat.{ℕ, suc, _+_, _-_, _≤_, _<_, max}
 use native.Mathlib.Omega.{arith}
 use native.Mathlib.Numerals.{add-one}
 use lib.ListN.{length}
-use Rattle.link.proofs.Bools.{clash}
+use Rattle.ground.proofs.Bools.{clash}
 use Rattle.report.specs.Runs.{countOf, begins, width, runsBelow, widestOf}
 use Rattle.report.specs.Free.{stretchOf}
 use Rattle.report.specs.Steps.{Placed, freeAt, CoveredTo, NextStart}

@@ -7,8 +7,8 @@ use Prim.Native.Nat.{ℕ, zero, suc, _+_, _-_, _≤_, _<_}
 use native.Mathlib.Omega.{arith}
 use lib.ListN.{length}
 use borrow.Author.Tests.{not-true, not-false}
-use Rattle.link.proofs.Bools.{and-parts, lt-or-ge, true-or-false}
-use Rattle.link.proofs.Minimum.{least-at, least-is}
+use Rattle.ground.proofs.Bools.{and-parts, lt-or-ge, true-or-false}
+use Rattle.ground.proofs.Minimum.{least-at, least-is}
 use Rattle.report.specs.Runs.{countOf, begins, width, runsBelow}
 use Rattle.report.proofs.Counts.{count-in, count-out}
 

@@ -4,9 +4,10 @@ use mathlib.Core.List.{List, [], _∷_}
 use Prim.Native.Nat.{ℕ, _-_, _*_, _≤_}
 use native.Mathlib.Omega.{arith}
 use lib.ListN.{length}
-use Rattle.link.specs.Least.{least, oneMore}
+use Rattle.ground.specs.Least.{least, oneMore}
 use Rattle.link.specs.Range.{GoodPlan}
-use Rattle.link.specs.Refusal.{first, outside, andThen, linkFaults, rowFaults, offsetFaults}
+use Rattle.ground.specs.Judging.{first, outside, andThen}
+use Rattle.link.specs.Refusal.{linkFaults, rowFaults, offsetFaults}
 use Rattle.link.specs.Rows.{Crossing, one, second, start, hits, either, free, firstHit, metAt, Clear}
 use Rattle.link.specs.Slots.{uses, meets}
 use Rattle.link.specs.declared.Link.{Link}

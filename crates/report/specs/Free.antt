@@ -3,7 +3,7 @@ use mathlib.Core.Bool.{Bool, not}
 use mathlib.Core.List.{List}
 use Prim.Native.Nat.{ℕ}
 use lib.ListN.{length}
-use Rattle.link.specs.Least.{some}
+use Rattle.ground.specs.Least.{some}
 use Rattle.link.specs.Slots.{uses}
 use Rattle.link.specs.Rows.{Crossing, start}
 use Rattle.report.specs.Runs.{countOf, runs, widestOf}

@@ -3,7 +3,7 @@ use mathlib.Core.Path.{_≡_}
 use mathlib.Core.Bool.{Bool, true, false, not, cond, _&&_}
 use mathlib.Core.List.{List, [], _∷_}
 use Prim.Native.Nat.{ℕ, zero, suc, _+_, _-_, _≤_, _<_, max}
-use Rattle.link.specs.Least.{least}
+use Rattle.ground.specs.Least.{least}
 
 -- how many numbers below n have q: "counted slot by slot"
 unfoldable pub countOf : (ℕ → Bool) → ℕ → ℕ

@@ -3,14 +3,14 @@ mod fill;
 
 use checker::Checked;
 use link::Link;
-use link::limits::BUDGET_SPENT;
-use link::limits::NO_BUILD;
 use planfile::PlanRead;
 use planfile::PlanWritten;
 use quick::Planned;
 use records::Record;
 use report::Reported;
 use search::Answer;
+use search::limits::BUDGET_SPENT;
+use search::limits::NO_BUILD;
 use text::Read;
 ghost use mathlib.Core.Path.{_≡_};
 ghost use Rattle.checker.specs.Answer.{said, answer as Answer·checked};

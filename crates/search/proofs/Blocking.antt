@@ -10,10 +10,10 @@ use lib.Dec.{ltb}
 use lib.ListN.{getD}
 use borrow.Author.Tests.{lt-ltb, le-ltb, ltb-true}
 use Rattle.link.specs.Slots.{apartb, meets}
-use Rattle.link.specs.Least.{some}
+use Rattle.ground.specs.Least.{some}
 use Rattle.link.specs.Rows.{second, start, hits, either}
 use Rattle.link.proofs.Circle.{meets-apart}
-use Rattle.link.proofs.Minimum.{least-cong}
+use Rattle.ground.proofs.Minimum.{least-cong}
 use Rattle.link.proofs.Meeting.{second-low}
 use Rattle.search.specs.Steps.{Step, placed, puts, inTheWay, good}
 use Rattle.search.specs.Search.{Table, Starts, blocked, unblocked}

@@ -5,7 +5,7 @@ use Prim.Native.Nat.{ℕ, zero, suc, _+_, _*_, _≤_}
 use native.Mathlib.Omega.{arith}
 use native.Mathlib.Nat.{mul-add}
 use lib.ListN.{getD}
-use Rattle.link.specs.Limits.{maxExactRows}
+use Rattle.search.specs.Limits.{maxExactRows}
 use Rattle.search.specs.Ceilings.{product, products, choices, ceilingOf, ceilingUpTo}
 
 -- "ceiling 0, 2, 20, 342, 10472, 509930, 36086652, 3493657790" for 1 to 8 rows

@@ -10,9 +10,9 @@ use lib.Dec.{eqb}
 use lib.ListN.{length, getD}
 use borrow.Author.Tests.{lt-ltb, eq-eqb, eqb-true, eqb-false}
 use Rattle.link.specs.Rows.{Crossing, one, two, start, startAt, hits, either}
-use Rattle.link.proofs.Bools.{clash}
+use Rattle.ground.proofs.Bools.{clash}
 use Rattle.link.proofs.Circle.{Apart}
-use Rattle.link.proofs.Minimum.{some-none}
+use Rattle.ground.proofs.Minimum.{some-none}
 use Rattle.link.proofs.Meeting.{start-low, neither}
 use Rattle.search.specs.Steps.{Step, step, placed, after, puts, inTheWay, good, put, steps, isStep}
 use Rattle.search.proofs.Listing.{steps-have}

@@ -7,7 +7,7 @@ use Prim.Native.Nat.{ℕ, zero, suc, _+_, _*_, _<_, _≤_}
 use native.Mathlib.Omega.{arith}
 use native.Mathlib.Nat.{mul-zero, mul-one, mul-add}
 use lib.ListN.{length, length-append}
-use Rattle.link.proofs.Bools.{lt-or-ge}
+use Rattle.ground.proofs.Bools.{lt-or-ge}
 use Rattle.search.specs.Steps.{from}
 
 unfoldable pub howMany : (ℕ → Bool) → ℕ → ℕ → ℕ

@@ -3,9 +3,10 @@ use mathlib.Core.Path.{_≡_, sym, ap, _∙_}
 use mathlib.Core.List.{List}
 use Prim.Native.Nat.{ℕ}
 use lib.ListN.{length}
-use Rattle.link.specs.Refusal.{first, exactFaults}
+use Rattle.ground.specs.Judging.{first}
+use Rattle.search.specs.Refusal.{exactFaults}
 use Rattle.link.specs.declared.Link.{Link}
-use Rattle.link.specs.declared.Judged.the-variants.{Fine, Fault}
+use Rattle.ground.specs.declared.Judged.the-variants.{Fine, Fault}
 use Rattle.search.specs.Builds.{planned}
 use Rattle.search.specs.Answer.{Outcome, said, outcome, exactly, Answers}
 use Rattle.search.specs.declared.Answer.{Answer}

@@ -8,7 +8,7 @@ use native.Mathlib.Omega.{arith}
 use lib.Dec.{eqb, eqb·suc-suc}
 use lib.ListN.{length}
 use borrow.Author.Tests.{eqb-true}
-use Rattle.link.proofs.Bools.{clash, and-parts}
+use Rattle.ground.proofs.Bools.{clash, and-parts}
 use Rattle.search.specs.Steps.{Step, Rules}
 use Rattle.search.specs.Builds.{Sequence, last, onward, Build, done, earlierStep, earlier, notLater, sequences, leads, allGood}
 use Rattle.search.specs.Builds.{isWhole, First, first, nothing, firstOf, count, found, none, counted, leastBuild}

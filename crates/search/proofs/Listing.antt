@@ -9,7 +9,7 @@ use native.Mathlib.Omega.{arith}
 use lib.Dec.{ltb}
 use borrow.Author.Tests.{lt-ltb, ltb-true, not-true}
 use Rattle.link.specs.Rows.{Crossing, one, two}
-use Rattle.link.proofs.Bools.{lt-or-ge, and-parts}
+use Rattle.ground.proofs.Bools.{lt-or-ge, and-parts}
 use Rattle.search.specs.Steps.{Step, step, placed, from, besides, rowSteps, steps, isStep}
 use Rattle.search.specs.Builds.{earlierStep}
 use Rattle.search.proofs.Orders.{Sorted, sorted-append, sorted-one, row-first, beside-first, crossing-first}

@@ -8,7 +8,7 @@ use native.Mathlib.Nat.{mod-lt, mod-eq-of-lt, mod-add-mod, add-mod-mod, add-mod-
 use borrow.Author.Tests.{not-false}
 use Rattle.link.specs.Slots.{meets, Meet, apartb}
 use Rattle.link.specs.Rows.{Crossing, one, two, second, startAt}
-use Rattle.link.proofs.Bools.{clash, is-false}
+use Rattle.ground.proofs.Bools.{clash, is-false}
 use Rattle.link.proofs.Circle.{Apart, Turned, turned, apart-parts, apart-true, meets-apart, meets-true, meets-slot}
 use Rattle.search.specs.Steps.{after, offsetOf}
 

@@ -13,7 +13,7 @@ use native.Mathlib.Nat.{mod-eq-of-lt, zero-mul, suc-mul, add-comm}
 use borrow.Author.Tests.{lt-ltb, le-ltb, ltb-true, ltb-false, not-true}
 use Rattle.link.specs.Limits.{maxRows}
 use Rattle.link.specs.Rows.{one, two, second, start}
-use Rattle.link.proofs.Bools.{lt-or-ge, and-parts}
+use Rattle.ground.proofs.Bools.{lt-or-ge, and-parts}
 use Rattle.search.specs.Steps.{Step, step, placed, from, besides, rowSteps, steps, puts, offsetOf, after, isStep}
 use Rattle.search.specs.Numbering.{stepAt, Next}
 

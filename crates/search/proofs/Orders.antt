@@ -9,7 +9,7 @@ use Prim.Native.Nat.{ℕ, _<_}
 use native.Mathlib.Omega.{arith}
 use borrow.Author.Tests.{lt-ltb, le-ltb, eq-eqb, ne-eqb}
 use Rattle.link.specs.Rows.{Crossing, one, two}
-use Rattle.link.proofs.Bools.{clash, lt-or-ge}
+use Rattle.ground.proofs.Bools.{clash, lt-or-ge}
 use Rattle.search.specs.Steps.{Step}
 use Rattle.search.specs.Builds.{order, orderSteps, earlierStep, earlier}
 

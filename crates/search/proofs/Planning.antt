@@ -7,7 +7,8 @@ use native.Mathlib.Nat.{mod-lt, mod-eq-of-lt}
 use lib.ListN.{length, getD, take, drop, replicate, length-replicate, getD-replicate}
 use lib.Seq.{length-take-le}
 use borrow.Author.Tests.{lt-ltb, le-ltb}
-use Rattle.link.specs.Limits.{maxRows, noBuild, budgetSpent}
+use Rattle.search.specs.Limits.{noBuild, budgetSpent}
+use Rattle.link.specs.Limits.{maxRows}
 use Rattle.link.specs.Range.{GoodTable}
 use Rattle.link.specs.Rows.{spanOf, second}
 use Rattle.link.specs.declared.Link.{Link}

@@ -8,12 +8,13 @@ use native.Mathlib.Omega.{arith}
 use lib.ListN.{length, getD, take, drop}
 use lib.Seq.{take-at}
 use borrow.Author.Tests.{le-leb}
-use Rattle.link.specs.Limits.{maxExactRows}
+use Rattle.search.specs.Limits.{maxExactRows}
 use Rattle.link.specs.Rows.{spanOf}
-use Rattle.link.specs.Refusal.{first, exactFaults}
+use Rattle.ground.specs.Judging.{first}
+use Rattle.search.specs.Refusal.{exactFaults}
 use Rattle.link.specs.declared.Link.{Link}
-use Rattle.link.specs.declared.Judged.the-variants.{Fine}
-use Rattle.link.proofs.Unique as unique
+use Rattle.ground.specs.declared.Judged.the-variants.{Fine}
+use Rattle.ground.proofs.Answers as unique
 use Rattle.search.specs.Builds.{begin, planned, rulesOf, sequencesOf}
 use Rattle.search.specs.Ceilings.{ceilingOf, ceilingUpTo}
 use Rattle.search.specs.Answer.{Verdict, plan, nothing, spent, refusal, Said, said, Outcome, exactly, Answers, ClearChoice, Fewer}

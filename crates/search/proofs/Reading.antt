@@ -7,14 +7,14 @@ use mathlib.Core.List.{List, List·Memᴰ}
 use Prim.Native.Nat.{ℕ, zero, suc, _-_, _<_, _≤_}
 use native.Mathlib.Omega.{arith}
 use lib.ListN.{length, getD}
-use Rattle.link.specs.Least.{some}
+use Rattle.ground.specs.Least.{some}
 use Rattle.link.specs.Slots.{Meet}
 use Rattle.link.specs.Range.{GoodTable}
 use Rattle.link.specs.Rows.{Crossing, one, two, start, startAt, hits, either, spanOf}
 use Rattle.link.specs.declared.Link.{Link}
-use Rattle.link.proofs.Bools.{clash, is-false}
+use Rattle.ground.proofs.Bools.{clash, is-false}
 use Rattle.link.proofs.Circle.{meets-true, meets-slot}
-use Rattle.link.proofs.Minimum.{some-none}
+use Rattle.ground.proofs.Minimum.{some-none}
 use Rattle.link.proofs.Meeting.{neither}
 use Rattle.search.specs.Steps.{Step, rules, placed, after, offsetOf, puts, inTheWay, good, isStep}
 use Rattle.search.specs.Builds.{Sequence, last, onward, earlier, begin, rulesOf, sequencesOf}

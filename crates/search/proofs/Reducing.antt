@@ -9,9 +9,9 @@ use native.Mathlib.Nat.{mod-eq-of-lt, add-mod-mod, mod-mod}
 use lib.ListN.{length, getD, set, length-set, replicate, getD-replicate, length-replicate, List·getD-eq-default}
 use lib.Seq.{getD-set-same, getD-set-other}
 use Rattle.link.specs.Limits.{maxRows}
-use Rattle.link.specs.Least.{some}
+use Rattle.ground.specs.Least.{some}
 use Rattle.link.specs.Rows.{Crossing, one, two, second, start, startAt, hits, either}
-use Rattle.link.proofs.Bools.{lt-or-ge}
+use Rattle.ground.proofs.Bools.{lt-or-ge}
 use Rattle.search.specs.Steps.{Step, Rules, rules, after, offsetOf, puts, inTheWay, good, put, steps}
 
 -- ts has the first i delays within the period, and 0 behind them

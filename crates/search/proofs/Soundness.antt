@@ -11,9 +11,9 @@ use lib.Seq.{getD-take}
 use borrow.Author.Tests.{not-true, not-false, eqb-true, eqb-false}
 use Rattle.link.specs.Limits.{maxRows}
 use Rattle.link.specs.Rows.{Crossing, one, two, start, startAt, hits, either, Clear}
-use Rattle.link.proofs.Bools.{or-none, lt-or-ge}
+use Rattle.ground.proofs.Bools.{or-none, lt-or-ge}
 use Rattle.link.proofs.Circle.{Apart}
-use Rattle.link.proofs.Minimum.{none-has}
+use Rattle.ground.proofs.Minimum.{none-has}
 use Rattle.link.proofs.Meeting.{start-low}
 use Rattle.search.specs.Steps.{Step, rules, placed, puts, inTheWay, good, put, isStep}
 use Rattle.search.specs.Builds.{Build, done, onward, leads, begin}

@@ -6,14 +6,15 @@ use Prim.Native.Nat.{ℕ, _<_, _≤_}
 use native.Mathlib.Omega.{arith}
 use lib.ListN.{length, take, drop}
 use borrow.Author.Tests.{lt-ltb, le-ltb}
-use Rattle.link.specs.Limits.{maxExactRows, noBuild, budgetSpent}
+use Rattle.search.specs.Limits.{maxExactRows, noBuild, budgetSpent}
 use Rattle.link.specs.Range.{GoodTable}
-use Rattle.link.specs.Refusal.{first, exactFaults}
+use Rattle.ground.specs.Judging.{first}
+use Rattle.search.specs.Refusal.{exactFaults}
 use Rattle.link.specs.declared.Link.{Link}
-use Rattle.link.specs.declared.Judged.{Judged}
-use Rattle.link.specs.declared.Judged.the-variants.{Fine, Fault}
-use Rattle.link.proofs.Accepted.{good-exact}
-use Rattle.link.proofs.Bools.{lt-or-ge}
+use Rattle.ground.specs.declared.Judged.{Judged}
+use Rattle.ground.specs.declared.Judged.the-variants.{Fine, Fault}
+use Rattle.search.proofs.Accepted.{good-exact}
+use Rattle.ground.proofs.Bools.{lt-or-ge}
 use Rattle.search.specs.Builds.{Out, found, none, planned}
 use Rattle.search.specs.Answer.{Verdict, plan, nothing, spent, refusal, Said, says, said, Outcome, gives, within, outcome, judged}
 use Rattle.search.specs.Answer.{exactly, Answers}

@@ -6,10 +6,12 @@ use mathlib.Core.List.{List, [], _∷_, _++_}
 use Prim.Native.Nat.{ℕ, _≤_}
 use native.Mathlib.Omega.{arith}
 use lib.ListN.{length, take}
-use Rattle.link.specs.Least.{oneMore, least}
+use Rattle.ground.specs.Least.{oneMore, least}
 use Rattle.link.specs.Slots.{uses, meets}
 use Rattle.link.specs.Rows.{second, start, hits, either}
-use Rattle.link.specs.Refusal.{first, outside, andThen, linkFaults, rowFaults, roomFaults, exactFaults}
+use Rattle.ground.specs.Judging.{first, outside, andThen}
+use Rattle.search.specs.Refusal.{exactFaults}
+use Rattle.link.specs.Refusal.{linkFaults, rowFaults, roomFaults}
 use Rattle.link.specs.declared.Link.{Link}
 use Rattle.search.specs.Steps.{placed, from, besides, rowSteps, steps, after, offsetOf, puts, inTheWay, good, put}
 use Rattle.search.specs.Builds.{order, orderSteps, behind, sequences, leads, allGood, isWhole, firstOf, count, counted, leastBuild}

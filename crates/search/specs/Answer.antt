@@ -5,12 +5,13 @@ use mathlib.Core.List.{List, [], _∷_, _++_}
 use Prim.Native.Nat.{ℕ, _<_}
 use lib.Dec.{ltb}
 use lib.ListN.{length, getD, take, drop}
-use Rattle.link.specs.Limits.{noBuild, budgetSpent}
+use Rattle.search.specs.Limits.{noBuild, budgetSpent}
 use Rattle.link.specs.Rows.{spanOf, Clear}
-use Rattle.link.specs.Refusal.{first, exactFaults}
+use Rattle.ground.specs.Judging.{first}
+use Rattle.search.specs.Refusal.{exactFaults}
 use Rattle.link.specs.declared.Link.{Link}
-use Rattle.link.specs.declared.Judged.{Judged}
-use Rattle.link.specs.declared.Judged.the-variants.{Fine, Fault}
+use Rattle.ground.specs.declared.Judged.{Judged}
+use Rattle.ground.specs.declared.Judged.the-variants.{Fine, Fault}
 use Rattle.search.specs.Builds.{Out, found, none, planned}
 use Rattle.search.specs.declared.Answer.{Answer}
 use Rattle.search.specs.declared.Answer.the-variants.{Plan, None, Spent, Refused}

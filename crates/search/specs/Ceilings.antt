@@ -2,7 +2,7 @@
 use mathlib.Core.Bool.{cond}
 use Prim.Native.Nat.{ℕ, zero, suc, _+_, _-_, _*_}
 use lib.Dec.{leb}
-use Rattle.link.specs.Limits.{maxExactRows}
+use Rattle.search.specs.Limits.{maxExactRows}
 
 -- f a * f (a + 1) * .., s factors
 unfoldable pub product : (ℕ → ℕ) → ℕ → ℕ → ℕ

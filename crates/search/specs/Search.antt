@@ -7,7 +7,7 @@ use lib.Dec.{ltb, leb}
 use lib.ListN.{length, getD}
 use Rattle.link.specs.Limits.{maxPeriod, maxRows}
 use Rattle.link.specs.Slots.{apartb}
-use Rattle.link.specs.Least.{some}
+use Rattle.ground.specs.Least.{some}
 use Rattle.link.specs.Rows.{second}
 use Rattle.search.specs.Numbering.{stepAt}
 use Rattle.search.specs.Steps.{Step, Rules, rules}

@@ -4,7 +4,7 @@ use mathlib.Core.List.{List, [], _∷_, _++_}
 use Prim.Native.Nat.{ℕ, zero, suc, _+_, _-_, _%_}
 use lib.Dec.{ltb}
 use lib.ListN.{getD, set}
-use Rattle.link.specs.Least.{some}
+use Rattle.ground.specs.Least.{some}
 use Rattle.link.specs.Rows.{Crossing, one, two, start, hits, either}
 
 -- "A step names a row j not yet placed, a placed row i, and a crossing (1 or 2)."

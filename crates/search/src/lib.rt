@@ -1,7 +1,7 @@
 // The exact planner: the offsets of the least whole build, or that there is none.
-use link::Judged;
+use crate::limits::MAX_EXACT_ROWS;
+use ground::Judged;
 use link::Link;
-use link::limits::MAX_EXACT_ROWS;
 use link::limits::MAX_ROWS;
 ghost use mathlib.Core.Path.{_≡_};
 ghost use mathlib.Core.Bool.{true};
@@ -83,7 +83,7 @@ fn plan(link: Link, delays: &[u32], budget: u64, offsets: &mut [u32]) -> Answer
         budget,
     ) {
         Hunt::Found(left) => {
-            link::copy_out(&firsts[..rows], offsets);
+            ground::copy_out(&firsts[..rows], offsets);
             Answer::Plan {
                 tests: budget - left,
             }

@@ -4,19 +4,20 @@ use mathlib.Core.List.{List, _++_}
 use Prim.Native.Nat.{ℕ, _≤_, _<_}
 use lib.ListN.{length, drop}
 use borrow.Author.Tests.{lt-ltb, le-ltb}
-use Rattle.link.specs.Limits.{maxText, longText, bytesAfter, badLength}
-use Rattle.link.specs.Refusal.{first}
+use Rattle.text.specs.Limits.{maxText, longText, bytesAfter}
+use Rattle.link.specs.Limits.{badLength}
+use Rattle.ground.specs.Judging.{first}
 use Rattle.link.specs.declared.Link.{Link}
-use Rattle.link.specs.declared.Judged.{Judged}
-use Rattle.link.specs.declared.Judged.the-variants.{Fine, Fault}
-use Rattle.link.proofs.Faults.{hit, pass, fine, front-hit, front-pass}
+use Rattle.ground.specs.declared.Judged.{Judged}
+use Rattle.ground.specs.declared.Judged.the-variants.{Fine, Fault}
+use Rattle.ground.proofs.Faults.{hit, pass, fine, front-hit, front-pass}
 use Rattle.text.specs.declared.Text.the-variants.{Whole, Refused as Broken}
 use Rattle.text.specs.declared.Read.{Read}
 use Rattle.text.specs.declared.Read.the-variants.{Table, Refused}
 use Rattle.text.specs.Lines.{line}
 use Rattle.text.specs.Faults.{linkOf, rowsOf, endOf, textFaults, lateFaults, readFaults}
 use Rattle.text.specs.Reading.{said, delaysOf, accepted, reading, wholeIf, judging}
-use Rattle.link.proofs.Bools.{never}
+use Rattle.ground.proofs.Bools.{never}
 
 broken-if : (j : Judged) (r m n p : ℕ) → Broken n p ≡ wholeIf j r m → j ≡ Fault n p
 broken-if Fine r m n p e = never cc

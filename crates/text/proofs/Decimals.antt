@@ -8,12 +8,12 @@ use native.Mathlib.Nat.{pow-suc, pow-le-pow-right}
 use lib.ListN.{length, getD, take}
 use lib.Seq.{take-suc}
 use borrow.Author.Tests.{not-true}
-use Rattle.link.specs.Refusal.{outside}
-use Rattle.link.proofs.Bools.{and-parts, and-both}
-use Rattle.link.proofs.Minimum.{none-has, some-none}
-use Rattle.link.proofs.Faults.{inside}
+use Rattle.ground.specs.Judging.{outside}
+use Rattle.ground.proofs.Bools.{and-parts, and-both}
+use Rattle.ground.proofs.Minimum.{none-has, some-none}
+use Rattle.ground.proofs.Faults.{inside}
 use Rattle.text.specs.Decimal.{maxDigits, naught, nine, isOther, allDigits, leadingZero, isDecimal, valueFrom, value}
-use Rattle.link.proofs.Accepted.{within}
+use Rattle.ground.proofs.Faults.{within}
 
 abbrev pub Digits : List ℕ → Type 0
 Digits bs = (i : ℕ) → i < length bs → isOther (getD bs i 0) ≡ false

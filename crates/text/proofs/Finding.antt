@@ -8,9 +8,9 @@ use lib.Dec.{leb, eqb}
 use lib.ListN.{length, getD, take, drop, length-append, take-append-drop, List·getD-append}
 use lib.Seq.{take-append-seam, getD-append-seam, ext-getD}
 use borrow.Author.Tests.{ne-eqb, eq-eqb, eqb-true, le-leb, not-true, not-false}
-use Rattle.link.specs.Least.{some}
-use Rattle.link.proofs.Bools.{and-parts, and-both}
-use Rattle.link.proofs.Minimum.{least-is, least-at, some-none, none-has}
+use Rattle.ground.specs.Least.{some}
+use Rattle.ground.proofs.Bools.{and-parts, and-both}
+use Rattle.ground.proofs.Minimum.{least-is, least-at, some-none, none-has}
 use Rattle.text.specs.Bytes.{seek, same, begins}
 
 -- no byte of l is b

@@ -2,13 +2,13 @@
 use mathlib.Core.Path.{_≡_, refl, sym, ap, _∙_}
 use mathlib.Core.Bool.{true}
 use mathlib.Core.List.{List, [], _∷_, _++_, append-assoc}
-use Prim.Native.Nat.{ℕ, zero, suc, _+_, _-_, _≤_, _<_}
+use Prim.Native.Nat.{ℕ, zero, suc, _+_, _≤_, _<_}
 use native.Mathlib.Omega.{arith}
 use lib.Dec.{eqb}
 use lib.ListN.{length, getD, take, drop, length-append, length-drop}
 use lib.Seq.{take-add, take-suc, drop-cons, drop-drop, take-append-seam, drop-append-add, drop-length, take-length}
 use borrow.Author.Tests.{ltb-true, lt-ltb, eqb-true}
-use Rattle.link.proofs.Minimum.{least-is}
+use Rattle.ground.proofs.Minimum.{least-is}
 use Rattle.text.specs.Bytes.{newline, seek}
 use Rattle.text.specs.Lines.{nextLine, begin, lineFrom, endedFrom, line, ended}
 use Rattle.text.specs.Writing.{glue}

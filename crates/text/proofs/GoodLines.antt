@@ -3,22 +3,24 @@ use mathlib.Core.Path.{_≡_, refl, sym, ap, _∙_}
 use mathlib.Core.Bool.{true, not}
 use mathlib.Core.List.{List}
 use mathlib.Core.Logic.{⊎-elim}
-use Prim.Native.Nat.{ℕ, _-_, _≤_, _<_}
+use Prim.Native.Nat.{ℕ, _≤_, _<_}
 use native.Mathlib.Omega.{arith}
 use lib.Dec.{ltb, leb, eqb}
 use borrow.Author.Tests.{ltb-false, leb-false, eqb-false, eqb-true, not-false, le-ltb, lt-leb, ne-eqb, eq-eqb}
-use Rattle.link.specs.Limits.{maxRows, maxDelay, badLineOne, badLine, badDelay, badRows, badCount}
-use Rattle.link.specs.Refusal.{first, linkFaults}
-use Rattle.link.specs.declared.Judged.{Judged}
-use Rattle.link.specs.declared.Judged.the-variants.{Fine, Fault}
-use Rattle.link.proofs.Bools.{lt-or-ge}
-use Rattle.link.proofs.Faults.{pass, passed, fine}
+use Rattle.text.specs.Limits.{badLineOne, badLine, badCount}
+use Rattle.link.specs.Limits.{maxRows, maxDelay, badDelay, badRows}
+use Rattle.ground.specs.Judging.{first}
+use Rattle.link.specs.Refusal.{linkFaults}
+use Rattle.ground.specs.declared.Judged.{Judged}
+use Rattle.ground.specs.declared.Judged.the-variants.{Fine, Fault}
+use Rattle.ground.proofs.Bools.{lt-or-ge}
+use Rattle.ground.proofs.Faults.{pass, passed, fine}
 use Rattle.text.specs.Bytes.{same, titleWord}
 use Rattle.text.specs.Decimal.{isDecimal, value}
 use Rattle.text.specs.Faults.{isPair, linkOf, isLast, countPart, titleFaults, pairFaults, rowFaults}
 use Rattle.text.specs.Faults.{lastFaults}
 use Rattle.text.proofs.LineForms.{moved, placed}
-use Rattle.link.proofs.Bools.{never}
+use Rattle.ground.proofs.Bools.{never}
 
 -- a row, and the last line after n rows
 pub record GoodRow (l : List ℕ) : Type 0 where

@@ -8,17 +8,18 @@ use native.Mathlib.Omega.{arith}
 use lib.Dec.{leb, eqb}
 use lib.ListN.{length, take, drop, drop-of-length-le}
 use borrow.Author.Tests.{leb-true}
-use Rattle.link.specs.Limits.{badLine}
-use Rattle.link.specs.Refusal.{Cause, first, linkFaults}
+use Rattle.text.specs.Limits.{badLine}
+use Rattle.ground.specs.Judging.{Cause, first}
+use Rattle.link.specs.Refusal.{linkFaults}
 use Rattle.link.specs.declared.Link.{Link}
-use Rattle.link.specs.declared.Judged.{Judged}
-use Rattle.link.specs.declared.Judged.the-variants.{Fine, Fault}
-use Rattle.link.proofs.Bools.{clash, and-parts, lt-or-ge}
-use Rattle.link.proofs.Faults.{below, pass}
+use Rattle.ground.specs.declared.Judged.{Judged}
+use Rattle.ground.specs.declared.Judged.the-variants.{Fine, Fault}
+use Rattle.ground.proofs.Bools.{clash, and-parts, lt-or-ge}
+use Rattle.ground.proofs.Faults.{below, pass}
 use mathlib.Core.Logic.{⊎-elim}
 use Rattle.text.specs.Bytes.{space, seek, same, begins, endWord}
 use Rattle.text.specs.Decimal.{maxDigits, isDecimal, value}
-use Rattle.link.proofs.Filling.{tail-part}
+use Rattle.ground.proofs.Filling.{tail-part}
 use Rattle.text.specs.Faults.{firstPart, secondPart, isPair, linkOf, isLast, countPart, placedAt}
 use Rattle.text.specs.Faults.{titleFaults, pairFaults, lastFaults, rowFaults, ownFaults}
 

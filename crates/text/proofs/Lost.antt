@@ -18,7 +18,7 @@ use Rattle.text.proofs.Finding.{without-append}
 use Rattle.text.proofs.Gluing.{Free, AllFree, all-free-append}
 use Rattle.text.proofs.Forms.{count-value}
 use Rattle.text.proofs.Texts.{count-low, delay-low, lines-free, line-count, row-there, last-there}
-use Rattle.link.proofs.Bools.{never}
+use Rattle.ground.proofs.Bools.{never}
 
 -- two ways to cut one list at a byte 10, the first of them at the first one
 meet : (l r a b : List ℕ) → Free l → l ++ newline ∷ r ≡ a ++ newline ∷ b → ((a ≡ l) × (b ≡ r))

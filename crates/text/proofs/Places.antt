@@ -7,17 +7,19 @@ use native.Mathlib.Omega.{arith}
 use lib.Dec.{ltb}
 use lib.ListN.{length}
 use borrow.Author.Tests.{ltb-true}
-use Rattle.link.specs.Limits.{maxText, longText, badLength, bytesAfter}
-use Rattle.link.specs.Refusal.{Cause, when, first, andThen, linkFaults}
-use Rattle.link.specs.declared.Judged.{Judged}
-use Rattle.link.specs.declared.Judged.the-variants.{Fine, Fault}
-use Rattle.link.proofs.Faults.{orElse, first-append, front-fine}
+use Rattle.text.specs.Limits.{maxText, longText, bytesAfter}
+use Rattle.link.specs.Limits.{badLength}
+use Rattle.ground.specs.Judging.{Cause, when, first, andThen}
+use Rattle.link.specs.Refusal.{linkFaults}
+use Rattle.ground.specs.declared.Judged.{Judged}
+use Rattle.ground.specs.declared.Judged.the-variants.{Fine, Fault}
+use Rattle.ground.proofs.Faults.{orElse, first-append, front-fine}
 use Rattle.text.specs.Lines.{begin, line, ended}
 use Rattle.text.specs.Faults.{placedAt, isLast, titleFaults, pairFaults, rowFaults, lastFaults, ownFaults, lineFaults, linesFaults}
 use Rattle.text.specs.Faults.{rowsOf, textFaults, endOf, lateFaults, readFaults}
 use Rattle.text.specs.Reading.{table, refusal, says, Outcome, gives, unless, accepted, reading}
 use Rattle.text.proofs.Walk.{not-cut, ended-low}
-use Rattle.link.proofs.Bools.{never}
+use Rattle.ground.proofs.Bools.{never}
 
 -- a number of the table of refusals that a text can get, and a place
 pub record Numbered (number place limit : ℕ) : Type 0 where

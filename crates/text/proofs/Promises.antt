@@ -4,10 +4,10 @@ use mathlib.Core.List.{List, _∷_, _++_}
 use mathlib.Core.Logic.{_⊎_, inl, inr}
 use Prim.Native.Nat.{ℕ, _≤_, _<_}
 use lib.ListN.{length, drop}
-use Rattle.link.specs.Limits.{maxText, longText}
+use Rattle.text.specs.Limits.{maxText, longText}
 use Rattle.link.specs.Range.{GoodTable}
 use Rattle.link.specs.declared.Link.{Link}
-use Rattle.link.proofs.Unique.{no-second as one-said}
+use Rattle.ground.proofs.Answers.{no-second as one-said}
 use Rattle.text.specs.declared.Read.{Read}
 use Rattle.text.specs.Bytes.{newline}
 use Rattle.text.specs.Faults.{rowsOf}

@@ -3,14 +3,15 @@ use mathlib.Core.Path.{_≡_, sym, ap}
 use mathlib.Core.Bool.{Bool, true, false, not}
 use mathlib.Core.List.{List}
 use mathlib.Core.Logic.{⊎-elim}
-use Prim.Native.Nat.{ℕ, zero, suc, _-_, _≤_, _<_}
+use Prim.Native.Nat.{ℕ, zero, suc, _≤_, _<_}
 use native.Mathlib.Omega.{arith}
-use Rattle.link.specs.Limits.{maxRows, cutLine}
-use Rattle.link.specs.Refusal.{first}
-use Rattle.link.specs.declared.Judged.the-variants.{Fine}
-use Rattle.link.proofs.Bools.{lt-or-ge}
-use Rattle.link.proofs.Minimum.{least-is, least-at}
-use Rattle.link.proofs.Faults.{pass, fine, front-pass, front-fine}
+use Rattle.text.specs.Limits.{cutLine}
+use Rattle.link.specs.Limits.{maxRows}
+use Rattle.ground.specs.Judging.{first}
+use Rattle.ground.specs.declared.Judged.the-variants.{Fine}
+use Rattle.ground.proofs.Bools.{lt-or-ge}
+use Rattle.ground.proofs.Minimum.{least-is, least-at}
+use Rattle.ground.proofs.Faults.{pass, fine, front-pass, front-fine}
 use Rattle.text.specs.Bytes.{same, titleWord}
 use Rattle.text.specs.Lines.{begin, line, ended}
 use Rattle.text.specs.Faults.{isLast}

@@ -10,8 +10,8 @@ use lib.Dec.{ltb, eqb}
 use lib.ListN.{length, getD, length-append, List·getD-append}
 use lib.Seq.{getD-append-seam}
 use borrow.Author.Tests.{ltb-true, ltb-false, lt-ltb, le-ltb, ne-eqb, eqb-false}
-use Rattle.link.proofs.Bools.{lt-or-ge}
-use Rattle.link.proofs.Faults.{inside}
+use Rattle.ground.proofs.Bools.{lt-or-ge}
+use Rattle.ground.proofs.Faults.{inside}
 use Rattle.text.specs.Decimal.{maxDigits, naught, nine, isOther, leadingZero, isDecimal, valueFrom, value}
 use Rattle.text.specs.Writing.{digitsIn, digits}
 use Rattle.text.proofs.Decimals.{Digits, Spelt, digit, decimal, is-decimal, value-from-more}

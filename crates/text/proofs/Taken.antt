@@ -8,16 +8,18 @@ use lib.Dec.{ltb}
 use lib.ListN.{length, getD, take, drop, List·getD-append}
 use lib.Seq.{getD-at, take-append-seam}
 use borrow.Author.Tests.{ltb-false, le-ltb}
-use Rattle.link.specs.Limits.{maxDelay, maxText, maxRows, longText, bytesAfter, badLength, badRows, badDelay}
+use Rattle.text.specs.Limits.{maxText, longText, bytesAfter}
+use Rattle.link.specs.Limits.{maxDelay, maxRows, badLength, badRows, badDelay}
 use Rattle.link.specs.Range.{GoodTable}
-use Rattle.link.specs.Refusal.{first, linkFaults, rowFaults}
+use Rattle.ground.specs.Judging.{first}
+use Rattle.link.specs.Refusal.{linkFaults, rowFaults}
 use Rattle.link.specs.declared.Link.{Link}
-use Rattle.link.specs.declared.Judged.{Judged}
-use Rattle.link.specs.declared.Judged.the-variants.{Fine, Fault}
-use Rattle.link.proofs.Bools.{lt-or-ge}
-use Rattle.link.proofs.Minimum.{some-none}
+use Rattle.ground.specs.declared.Judged.{Judged}
+use Rattle.ground.specs.declared.Judged.the-variants.{Fine, Fault}
+use Rattle.ground.proofs.Bools.{lt-or-ge}
+use Rattle.ground.proofs.Minimum.{some-none}
 use Rattle.link.proofs.Accepted.{good-table}
-use Rattle.link.proofs.Faults.{pass, passed, fine, front-pass, front-fine, inside}
+use Rattle.ground.proofs.Faults.{pass, passed, fine, front-pass, front-fine, inside}
 use Rattle.text.specs.Bytes.{titleWord}
 use Rattle.text.specs.Decimal.{value}
 use Rattle.text.specs.Lines.{begin, line}

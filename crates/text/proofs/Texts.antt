@@ -6,13 +6,15 @@ use native.Mathlib.Omega.{arith}
 use lib.ListN.{length, getD, take, drop, length-append, length-map, List·getD-append}
 use lib.Seq.{take-suc, take-length, getD-at}
 use borrow.Author.Tests.{le-ltb}
-use Rattle.link.specs.Limits.{maxDelay, maxText, longText, bytesAfter, badLength}
+use Rattle.text.specs.Limits.{maxText, longText, bytesAfter}
+use Rattle.link.specs.Limits.{maxDelay, badLength}
 use Rattle.link.specs.Range.{GoodTable}
-use Rattle.link.specs.Refusal.{first, linkFaults, rowFaults}
+use Rattle.ground.specs.Judging.{first}
+use Rattle.link.specs.Refusal.{linkFaults, rowFaults}
 use Rattle.link.specs.declared.Link.{Link}
-use Rattle.link.specs.declared.Judged.the-variants.{Fine}
+use Rattle.ground.specs.declared.Judged.the-variants.{Fine}
 use Rattle.link.proofs.Accepted.{fine-table}
-use Rattle.link.proofs.Faults.{pass, fine, front-pass, front-fine}
+use Rattle.ground.proofs.Faults.{pass, fine, front-pass, front-fine}
 use Rattle.text.specs.Bytes.{newline, space, same, titleWord}
 use Rattle.text.specs.Decimal.{value}
 use Rattle.text.specs.Lines.{line}

@@ -5,8 +5,8 @@ use mathlib.Core.List.{List, _++_, append-assoc}
 use Prim.Native.Nat.{ℕ, _+_, _-_, _≤_, zero, suc, _<_}
 use native.Mathlib.Omega.{arith}
 use lib.ListN.{length, take, drop, getD, set, length-append, length-set}
-use Rattle.link.specs.Refusal.{first}
-use Rattle.link.specs.declared.Judged.the-variants.{Fine}
+use Rattle.ground.specs.Judging.{first}
+use Rattle.ground.specs.declared.Judged.the-variants.{Fine}
 use Rattle.text.specs.Bytes.{newline, seek}
 use Rattle.text.specs.Lines.{begin, line}
 use Rattle.text.specs.Faults.{isPair, textFaults, rowsOf}

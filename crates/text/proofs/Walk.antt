@@ -9,13 +9,14 @@ use native.Mathlib.Numerals.{add-one}
 use lib.Dec.{ltb}
 use lib.ListN.{length, drop, length-drop}
 use borrow.Author.Tests.{ltb-true, lt-ltb, not-false}
-use Rattle.link.specs.Limits.{maxRows, cutLine}
-use Rattle.link.specs.Refusal.{first}
-use Rattle.link.specs.declared.Judged.{Judged}
-use Rattle.link.specs.declared.Judged.the-variants.{Fine, Fault}
-use Rattle.link.proofs.Bools.{clash, and-parts, lt-or-ge}
-use Rattle.link.proofs.Minimum.{least-is, least-at}
-use Rattle.link.proofs.Faults.{passed, fine, front-hit, front-pass}
+use Rattle.text.specs.Limits.{cutLine}
+use Rattle.link.specs.Limits.{maxRows}
+use Rattle.ground.specs.Judging.{first}
+use Rattle.ground.specs.declared.Judged.{Judged}
+use Rattle.ground.specs.declared.Judged.the-variants.{Fine, Fault}
+use Rattle.ground.proofs.Bools.{clash, and-parts, lt-or-ge}
+use Rattle.ground.proofs.Minimum.{least-is, least-at}
+use Rattle.ground.proofs.Faults.{passed, fine, front-hit, front-pass}
 use Rattle.text.specs.declared.Line.{Line}
 use Rattle.text.specs.declared.Line.the-variants.{More, Last, Wrong}
 use Rattle.text.specs.declared.Text.the-variants.{Whole, Refused as Broken}
@@ -24,7 +25,7 @@ use Rattle.text.specs.Lines.{nextLine, begin, endedFrom, line, ended}
 use Rattle.text.specs.Faults.{isLast, ownFaults, lineFaults, linesFaults, rowsOf, textFaults, endOf}
 use Rattle.text.specs.Reading.{judging}
 use Rattle.text.specs.Steps.{lineIf, lineSays}
-use Rattle.link.proofs.Bools.{never}
+use Rattle.ground.proofs.Bools.{never}
 use Rattle.text.proofs.GoodLines.{row-parts}
 
 -- what a line's answer tells

@@ -4,10 +4,11 @@ use mathlib.Core.List.{List, [], _∷_, _++_}
 use Prim.Native.Nat.{ℕ, zero, suc, _≤_, _<_}
 use native.Mathlib.Omega.{arith}
 use lib.ListN.{length, getD, drop}
-use Rattle.link.specs.Least.{oneMore, least}
+use Rattle.ground.specs.Least.{oneMore, least}
 use Rattle.link.specs.Limits.{maxDelay}
 use Rattle.link.specs.declared.Link.{Link}
-use Rattle.link.specs.Refusal.{first, outside, andThen, linkFaults}
+use Rattle.ground.specs.Judging.{first, outside, andThen}
+use Rattle.link.specs.Refusal.{linkFaults}
 use Rattle.text.specs.Bytes.{seek, same, begins}
 use Rattle.text.specs.Decimal.{isOther, allDigits, leadingZero, isDecimal, valueFrom}
 use Rattle.text.specs.Lines.{nextLine, begin, lineFrom, endedFrom}

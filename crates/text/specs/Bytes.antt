@@ -4,7 +4,7 @@ use mathlib.Core.List.{List, [], _∷_}
 use Prim.Native.Nat.{ℕ}
 use lib.Dec.{leb, eqb}
 use lib.ListN.{length, getD, take}
-use Rattle.link.specs.Least.{least, some}
+use Rattle.ground.specs.Least.{least, some}
 
 -- "Every line .. ends with byte 10."
 abbrev pub newline : ℕ

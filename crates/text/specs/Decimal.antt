@@ -4,8 +4,8 @@ use mathlib.Core.List.{List, [], _∷_}
 use Prim.Native.Nat.{ℕ, _+_, _-_, _*_}
 use lib.Dec.{ltb, eqb}
 use lib.ListN.{length, getD}
-use Rattle.link.specs.Least.{some}
-use Rattle.link.specs.Refusal.{outside}
+use Rattle.ground.specs.Least.{some}
+use Rattle.ground.specs.Judging.{outside}
 
 -- "1 to 8 digits"
 abbrev pub maxDigits : ℕ

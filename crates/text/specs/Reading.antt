@@ -2,10 +2,10 @@
 use mathlib.Core.List.{List, [], _∷_, _++_}
 use Prim.Native.Nat.{ℕ, zero, suc}
 use lib.ListN.{length, drop}
-use Rattle.link.specs.Refusal.{first}
+use Rattle.ground.specs.Judging.{first}
 use Rattle.link.specs.declared.Link.{Link}
-use Rattle.link.specs.declared.Judged.{Judged}
-use Rattle.link.specs.declared.Judged.the-variants.{Fine, Fault}
+use Rattle.ground.specs.declared.Judged.{Judged}
+use Rattle.ground.specs.declared.Judged.the-variants.{Fine, Fault}
 use Rattle.text.specs.Decimal.{value}
 use Rattle.text.specs.Lines.{line}
 use Rattle.text.specs.Faults.{linkOf, rowsOf, endOf, textFaults, readFaults}

@@ -3,10 +3,10 @@ use mathlib.Core.Bool.{Bool, true, false, not, _&&_}
 use mathlib.Core.List.{List, _∷_}
 use Prim.Native.Nat.{ℕ}
 use lib.Dec.{ltb}
-use Rattle.link.specs.Limits.{cutLine}
-use Rattle.link.specs.Refusal.{first, when}
-use Rattle.link.specs.declared.Judged.{Judged}
-use Rattle.link.specs.declared.Judged.the-variants.{Fine, Fault}
+use Rattle.text.specs.Limits.{cutLine}
+use Rattle.ground.specs.Judging.{first, when}
+use Rattle.ground.specs.declared.Judged.{Judged}
+use Rattle.ground.specs.declared.Judged.the-variants.{Fine, Fault}
 use Rattle.text.specs.Lines.{nextLine, lineFrom, endedFrom}
 use Rattle.text.specs.Faults.{isLast, ownFaults}
 use Rattle.text.specs.declared.Line.{Line}

@@ -1,18 +1,18 @@
 // What is wrong with a line by itself: its bytes, and the place of the first.
 use crate::bytes;
 use crate::decimal;
-use link::Judged;
+use crate::limits::BAD_COUNT;
+use crate::limits::BAD_LINE;
+use crate::limits::BAD_LINE_ONE;
+use ground::Judged;
 use link::Link;
-use link::limits::BAD_COUNT;
 use link::limits::BAD_DELAY;
-use link::limits::BAD_LINE;
-use link::limits::BAD_LINE_ONE;
 use link::limits::BAD_ROWS;
 use link::limits::MAX_DELAY;
 use link::limits::MAX_ROWS;
 ghost use mathlib.Core.Path.{_≡_};
 ghost use mathlib.Core.Bool.{true};
-ghost use Rattle.link.specs.Refusal.{first};
+ghost use Rattle.ground.specs.Judging.{first};
 ghost use Rattle.text.specs.Faults.{isPair, linkOf, isLast, titleFaults, pairFaults, rowFaults, lastFaults, ownFaults};
 
 // Lines are numbered from 0, and the rows begin behind line two.

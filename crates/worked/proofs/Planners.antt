@@ -1,8 +1,8 @@
 -- What a quick planner's answer says of the exact planner's: its plan means that "none" is never said, and its 13 means nothing.
 -- Assumes nothing.
 use mathlib.Core.Path.{_≡_, refl}
-use mathlib.Core.List.{List, [], _∷_}
-use Prim.Native.Nat.{ℕ, _/_, _*_, _<_}
+use mathlib.Core.List.{List}
+use Prim.Native.Nat.{ℕ, _/_, _<_}
 use native.Mathlib.Omega.{arith}
 use lib.ListN.{length, getD}
 use Rattle.link.specs.Rows.{spanOf}
@@ -10,13 +10,11 @@ use Rattle.link.specs.declared.Link.{Link}
 use Rattle.quick.specs.Answer.{said, gives, quick}
 use Rattle.quick.specs.Right.{GivenPlan}
 use Rattle.quick.specs.Ways.{Ways}
-use Rattle.quick.specs.declared.Planned.{Planned}
 use Rattle.quick.specs.declared.Planned.the-variants.{Plan}
 use Rattle.quick.proofs.Candidates.{next-low}
 use Rattle.quick.proofs.Entries.{each-offset, multiples}
 use Rattle.quick.proofs.Promises.{plan-is-right}
 use Rattle.search.specs.Answer.{Answers, ClearChoice}
-use Rattle.search.specs.declared.Answer.{Answer}
 use Rattle.search.specs.declared.Answer.the-variants.{None}
 use Rattle.search.proofs.Promises.{clear-plan-never-none}
 

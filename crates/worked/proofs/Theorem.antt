@@ -1,8 +1,10 @@
 -- Every line of the table is as the page says. Assumes nothing.
 use mathlib.Core.Path.{_≡_, refl}
 use mathlib.Core.List.{map}
-use Rattle.link.specs.Least.{oneMore, least}
-use Rattle.link.specs.Refusal.{first, outside, andThen, linkFaults, rowFaults, roomFaults, exactFaults, offsetFaults}
+use Rattle.ground.specs.Least.{oneMore, least}
+use Rattle.ground.specs.Judging.{first, outside, andThen}
+use Rattle.search.specs.Refusal.{exactFaults}
+use Rattle.link.specs.Refusal.{linkFaults, rowFaults, roomFaults, offsetFaults}
 use Rattle.link.specs.Rows.{second, start, hits, either, free, firstHit, metAt}
 use Rattle.link.specs.Slots.{uses, meets}
 use Rattle.checker.specs.Answer as checker

@@ -2,11 +2,11 @@
 -- numbers of the C interface (answer, then lent list), and what the page says.
 use mathlib.Core.List.{List, [], _∷_, _++_}
 use Prim.Native.Nat.{ℕ}
-use Rattle.link.specs.Limits.{noOffset, noBuild, budgetSpent}
+use Rattle.search.specs.Limits.{noBuild, budgetSpent}
+use Rattle.link.specs.Limits.{noOffset}
 use Rattle.checker.specs.Answer.{answer as checked}
 use Rattle.quick.specs.Answer.{firstFit, metaOffset}
 use Rattle.search.specs.Answer.{exactly}
-use Rattle.search.specs.Ceilings.{ceilingUpTo}
 use Rattle.report.specs.Answer.{answer as reported}
 use Rattle.planfile.specs.Answer.{writeGives}
 use Rattle.seamwhisk.specs.Numbers.{Left, linkOf, checkedAs, plannedAs, searchedAs, reportedAs, writtenAs}

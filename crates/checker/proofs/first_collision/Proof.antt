@@ -1,10 +1,10 @@
 -- Invariant: the rows before j meet nobody, and `seconds` has their second starts.
-use mathlib.Core.Path.{_≡_, refl, sym, _∙_}
-use Prim.Native.Nat.{_-_, _<_}
+use mathlib.Core.Path.{refl, sym}
+use Prim.Native.Nat.{_-_}
 use native.Mathlib.Omega.{arith}
 use lib.ListN.{length}
 use lib.Seq.{length-take-le}
-use Rattle.link.proofs.Filling.{same-front}
+use Rattle.ground.proofs.Filling.{same-front}
 use Rattle.checker.specs.Answer.{said}
 use Rattle.checker.proofs.Naming.{Walked, none-yet, stops, goes-on, named-clear}
 use borrow.Author.Needs.{needs}

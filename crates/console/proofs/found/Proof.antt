@@ -1,10 +1,9 @@
 -- `found`, the tests, and the offsets, one behind the other.
-use mathlib.Core.Path.{_≡_, sym, _∙_}
-use mathlib.Core.List.{List, _++_}
-use Prim.Native.Nat.{_+_, _*_, _≤_}
+use mathlib.Core.List.{_++_}
+use Prim.Native.Nat.{_+_, _≤_}
 use native.Mathlib.Omega.{arith}
 use lib.ListN.{length, length-append}
-use Rattle.console.specs.Printed.{foundWord, number, numberLine, foundLines}
+use Rattle.console.specs.Printed.{foundWord, numberLine, foundLines}
 use Rattle.console.proofs.Adding.{and-then}
 use Rattle.console.proofs.Spelling.{line-short}
 use borrow.Author.Needs.{needs}

@@ -1,12 +1,12 @@
 -- Invariant: the first i offsets stand from `from` on, and `at` is the place behind them.
-use mathlib.Core.Path.{_≡_, refl, sym, _∙_, subst}
-use mathlib.Core.List.{List, [], _∷_, _++_}
+use mathlib.Core.Path.{_≡_, refl, _∙_, subst}
+use mathlib.Core.List.{List}
 use Prim.Native.Nat.{ℕ, _+_, _-_, _*_, _≤_}
 use native.Mathlib.Omega.{arith}
-use lib.ListN.{length, take, getD}
+use lib.ListN.{length, take}
 use lib.Seq.{take-length}
 use Rattle.console.specs.Placed.{Adds}
-use Rattle.console.specs.Printed.{numberLine, offsetLines}
+use Rattle.console.specs.Printed.{offsetLines}
 use Rattle.console.proofs.Adding.{nothing-yet, and-then}
 use Rattle.console.proofs.Lines.{one-more}
 use borrow.Author.Needs.{needs}

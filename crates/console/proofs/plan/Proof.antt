@@ -1,9 +1,9 @@
 -- Each arm of the planner's answer is shown as `planned` says.
-use mathlib.Core.Path.{_≡_, refl, sym, _∙_, subst}
+use mathlib.Core.Path.{sym, subst}
 use mathlib.Core.List.{List}
-use Prim.Native.Nat.{ℕ, _≤_}
+use Prim.Native.Nat.{ℕ}
 use native.Mathlib.Omega.{arith}
-use lib.ListN.{length, take}
+use lib.ListN.{length}
 use lib.Seq.{length-take-le}
 use Rattle.search.specs.Answer.{said}
 use Rattle.console.specs.Placed.{Adds}

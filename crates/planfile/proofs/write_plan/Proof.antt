@@ -5,7 +5,7 @@ use Prim.Native.Nat.{ℕ, _≤_, _<_}
 use native.Mathlib.Omega.{arith}
 use lib.ListN.{length}
 use lib.Seq.{length-take-le}
-use Rattle.link.specs.declared.Judged.the-variants.{Fine}
+use Rattle.ground.specs.declared.Judged.the-variants.{Fine}
 use Rattle.planfile.specs.Format.{planBytes, Put}
 use Rattle.planfile.specs.Reading.{judgment}
 use Rattle.planfile.specs.Answer.{writtenSaid}

@@ -1,12 +1,12 @@
 -- Invariant: a and b are the starts at the candidate c, and no candidate before c is open.
-use mathlib.Core.Path.{_≡_, refl, sym, ap, _∙_}
-use mathlib.Core.Bool.{Bool, true, false}
-use Prim.Native.Nat.{ℕ, _+_, _-_, _*_, _≤_, _<_}
+use mathlib.Core.Path.{_≡_, sym, ap, _∙_}
+use mathlib.Core.Bool.{false}
+use Prim.Native.Nat.{ℕ, _-_, _*_, _≤_, _<_}
 use native.Mathlib.Omega.{arith}
 use native.Mathlib.Nat.{zero-mul}
 use borrow.Author.Count.{below-more, below-none}
 use Rattle.link.specs.Rows.{second, isNobody}
-use Rattle.link.proofs.Minimum.{least-at}
+use Rattle.ground.proofs.Minimum.{least-at}
 use Rattle.link.proofs.Meeting.{second-low}
 use Rattle.quick.specs.Ways.{openTo}
 use Rattle.quick.proofs.Candidates.{next-low, next-is, next-second, opens}

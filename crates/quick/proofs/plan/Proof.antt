@@ -1,12 +1,11 @@
 -- Invariant: the first j rows have their offsets, and `firsts` and `seconds` their starts.
-use mathlib.Core.Path.{_≡_, refl, sym, ap, _∙_}
-use Prim.Native.Nat.{ℕ, _+_, _-_, _*_, _≤_, _<_}
+use mathlib.Core.Path.{_≡_, refl, sym}
+use Prim.Native.Nat.{_-_, _≤_}
 use native.Mathlib.Omega.{arith}
-use lib.ListN.{length, take}
+use lib.ListN.{length}
 use lib.Seq.{length-take-le}
-use Rattle.link.specs.Limits.{maxRows}
-use Rattle.link.proofs.Filling.{same-front}
-use Rattle.quick.specs.Answer.{said, gives, outcome}
+use Rattle.ground.proofs.Filling.{same-front}
+use Rattle.quick.specs.Answer.{said, outcome}
 use Rattle.quick.proofs.Placing.{State, none-yet, blocked, onward}
 use Rattle.quick.proofs.Candidates.{next-low}
 use borrow.Author.Needs.{needs}

@@ -49,7 +49,7 @@ use denote.Triple.Walked.{says, Stays, stay-none, stay-none-slice, walkOf, goes-
 use denote.Exit.{yes}
 use borrow.Author.Tests.{lt-ltb, le-ltb}
 use Rattle.link.specs.declared.Link.{Link}
-use Rattle.link.proofs.Bools.{lt-or-ge}
+use Rattle.ground.proofs.Bools.{lt-or-ge}
 use Rattle.link.proofs.Link as Lk
 use Rattle.link.proofs.Link.Laws as Lk′
 use Rattle.checker.specs.Answer.{said, answer}

@@ -1,6 +1,6 @@
 -- Document 01's table has the ceiling of each number of rows.
 use borrow.Author.Tests.{lt-leb}
-use Rattle.link.specs.Limits.{maxExactRows}
+use Rattle.search.specs.Limits.{maxExactRows}
 use Rattle.search.specs.Ceilings.{ceilingUpTo}
 use Rattle.search.proofs.Ceilings.{table}
 use borrow.Author.Needs.{needs}

@@ -1,6 +1,6 @@
 -- A fault of the judging stands; where there is none, the plan's answer does.
 use mathlib.Core.Path.{sym, _∙_}
-use Rattle.link.proofs.Accepted.{good-exact}
+use Rattle.search.proofs.Accepted.{good-exact}
 use Rattle.search.proofs.Judging.{refused, answered}
 use borrow.Author.Needs.{needs}
 use Rattle.search.proofs.exact.Statement.{statement}

@@ -5,7 +5,7 @@ use Prim.Native.Nat.{ℕ, _-_, _≤_, _<_}
 use native.Mathlib.Omega.{arith}
 use lib.ListN.{getD}
 use borrow.Author.Count.{below-more, below-none}
-use Rattle.link.proofs.Minimum.{some-at, some-none}
+use Rattle.ground.proofs.Minimum.{some-at, some-none}
 use Rattle.search.specs.Search.{blocked, unblocked}
 use borrow.Author.Needs.{needs}
 use Rattle.search.proofs.is_free.Statement.{statement}

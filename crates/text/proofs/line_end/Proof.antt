@@ -4,7 +4,7 @@ use lib.ListN.{length, length-drop}
 use mathlib.Core.Path.{ap}
 use Prim.Native.Nat.{ℕ, _+_}
 use native.Mathlib.Omega.{arith}
-use Rattle.link.proofs.Filling.{tail-part}
+use Rattle.ground.proofs.Filling.{tail-part}
 use borrow.Author.Needs.{needs}
 use Rattle.text.proofs.line_end.Statement.{statement}
 use Rattle.text.proofs.line_end.Tie as tie

@@ -1,8 +1,7 @@
 -- Invariant: `from` digits are still to be spelt, those of `rest`.
-use mathlib.Core.Path.{_≡_, refl, sym, subst}
-use Prim.Native.Nat.{ℕ, suc, _+_, _-_, _%_, _≤_}
+use mathlib.Core.Path.{_≡_, refl, subst}
+use Prim.Native.Nat.{ℕ, suc, _-_, _≤_}
 use native.Mathlib.Omega.{arith}
-use native.Mathlib.Nat.{mod-lt}
 use lib.ListN.{length-set}
 use Rattle.console.proofs.Spelling.{Spelling, begins, ends, goes-on}
 use borrow.Author.Needs.{needs}

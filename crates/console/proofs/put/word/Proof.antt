@@ -1,11 +1,11 @@
 -- Invariant: the first i bytes stand in their place, the rest is as it was.
-use mathlib.Core.Path.{_≡_, refl, sym, ap, _∙_}
+use mathlib.Core.Path.{_≡_, refl, _∙_}
 use mathlib.Core.List.{append-assoc}
 use Prim.Native.Nat.{_+_, _-_, _≤_}
 use native.Mathlib.Omega.{arith}
 use native.Mathlib.Numerals.{add-one}
 use lib.ListN.{length, take, drop, length-set}
-use lib.Seq.{paste, paste-zero, paste-suc, length-paste, take-length}
+use lib.Seq.{paste, paste-zero, paste-suc, take-length}
 use borrow.Author.Needs.{needs}
 use Rattle.console.proofs.put.word.Statement.{statement}
 use Rattle.console.proofs.put.word.Tie as tie

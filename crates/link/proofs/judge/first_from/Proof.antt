@@ -1,13 +1,13 @@
 -- Invariant: no element below i is at the limit or above.
 use mathlib.Core.Path.{_≡_, sym}
-use mathlib.Core.Bool.{Bool, false}
+use mathlib.Core.Bool.{false}
 use Prim.Native.Nat.{ℕ, _-_, _≤_, _<_}
 use native.Mathlib.Omega.{arith}
 use lib.Dec.{leb}
 use lib.ListN.{length, getD}
 use borrow.Author.Count.{below-more, below-none}
 use borrow.Author.Tests.{le-leb, lt-leb}
-use Rattle.link.proofs.Minimum.{least-at}
+use Rattle.ground.proofs.Minimum.{least-at}
 use borrow.Author.Needs.{needs}
 use Rattle.link.proofs.judge.first_from.Statement.{statement}
 use Rattle.link.proofs.judge.first_from.Tie as tie

@@ -1,7 +1,6 @@
 -- The two comparisons of `outside`, one after the other.
 use borrow.Author.Tests.{lt-ltb, le-ltb}
-use Rattle.link.specs.Refusal.{outside}
-use borrow.Author.Needs.{needs}
+use Rattle.ground.specs.Judging.{outside}
 use Rattle.link.proofs.judge.is_outside.Statement.{statement}
 use Rattle.link.proofs.judge.is_outside.Tie as tie
 

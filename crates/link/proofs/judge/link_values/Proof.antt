@@ -1,7 +1,7 @@
 -- Each return says which lines of the list do not apply, and which does.
 use mathlib.Core.Path.{sym, _∙_}
 use Rattle.link.specs.Refusal.{linkFaults}
-use Rattle.link.proofs.Faults.{hit, pass, fine}
+use Rattle.ground.proofs.Faults.{hit, pass, fine}
 use borrow.Author.Needs.{needs}
 use Rattle.link.proofs.judge.link_values.Statement.{statement}
 use Rattle.link.proofs.judge.link_values.Tie as tie

@@ -3,7 +3,7 @@ use mathlib.Core.Path.{ap}
 use mathlib.Core.Bool.{not}
 use borrow.Author.Tests.{eq-eqb, ne-eqb}
 use Rattle.link.specs.Refusal.{offsetFaults}
-use Rattle.link.proofs.Faults.{hit, pass, hit-row, pass-row, fine}
+use Rattle.ground.proofs.Faults.{hit, pass, hit-row, pass-row, fine}
 use borrow.Author.Needs.{needs}
 use Rattle.link.proofs.judge.offsets.Statement.{statement}
 use Rattle.link.proofs.judge.offsets.Tie as tie

@@ -1,6 +1,6 @@
 -- A fault of the first judge stands; where it finds none, the second decides.
 use mathlib.Core.Path.{sym, _∙_}
-use Rattle.link.proofs.Faults.{front-hit, front-pass}
+use Rattle.ground.proofs.Faults.{front-hit, front-pass}
 use borrow.Author.Needs.{needs}
 use Rattle.link.proofs.judge.plan.Statement.{statement}
 use Rattle.link.proofs.judge.plan.Tie as tie

@@ -2,7 +2,7 @@
 use mathlib.Core.Path.{sym, _∙_}
 use borrow.Author.Tests.{lt-ltb, le-ltb}
 use Rattle.link.specs.Refusal.{roomFaults}
-use Rattle.link.proofs.Faults.{front-hit, front-pass, hit, pass, fine}
+use Rattle.ground.proofs.Faults.{front-hit, front-pass, hit, pass, fine}
 use borrow.Author.Needs.{needs}
 use Rattle.link.proofs.judge.planner.Statement.{statement}
 use Rattle.link.proofs.judge.planner.Tie as tie

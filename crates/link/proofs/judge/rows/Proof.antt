@@ -1,7 +1,7 @@
 -- Each return says which lines of the list do not apply, and which does.
 use native.Mathlib.Omega.{arith}
 use Rattle.link.specs.Refusal.{rowFaults}
-use Rattle.link.proofs.Faults.{hit, pass, hit-row, pass-row, fine, below, above, inside}
+use Rattle.ground.proofs.Faults.{hit, pass, hit-row, pass-row, fine, below, above, inside}
 use borrow.Author.Needs.{needs}
 use Rattle.link.proofs.judge.rows.Statement.{statement}
 use Rattle.link.proofs.judge.rows.Tie as tie

@@ -5,7 +5,7 @@ use Prim.Native.Nat.{_-_, _≤_}
 use native.Mathlib.Omega.{arith}
 use lib.ListN.{length, take, drop, length-set}
 use lib.Seq.{take-length}
-use Rattle.link.proofs.Filling.{copied}
+use Rattle.ground.proofs.Filling.{copied}
 use borrow.Author.Needs.{needs}
 use Rattle.planfile.proofs.writer.copy_out.Statement.{statement}
 use Rattle.planfile.proofs.writer.copy_out.Tie as tie

@@ -1,5 +1,5 @@
 -- Every place is written, so the old numbers do not matter.
-use mathlib.Core.List.{List, [], _∷_}
+use mathlib.Core.List.{[], _∷_}
 use native.Mathlib.Omega.{arith}
 use Rattle.seamwhisk.proofs.Filled.{filled}
 use borrow.Author.Needs.{needs}

@@ -7,7 +7,7 @@ use lib.Dec.{eqb}
 use lib.ListN.{length, getD}
 use borrow.Author.Count.{below-more, below-none}
 use borrow.Author.Tests.{eq-eqb, ne-eqb}
-use Rattle.link.proofs.Minimum.{some-at, some-none}
+use Rattle.ground.proofs.Minimum.{some-at, some-none}
 use Rattle.text.specs.Bytes.{same}
 use borrow.Author.Needs.{needs}
 use Rattle.text.proofs.bytes.same.Statement.{statement}

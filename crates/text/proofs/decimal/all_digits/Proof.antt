@@ -5,7 +5,7 @@ use Prim.Native.Nat.{ℕ, _-_, _≤_, _<_}
 use native.Mathlib.Omega.{arith}
 use lib.ListN.{length, getD}
 use borrow.Author.Count.{below-more, below-none}
-use Rattle.link.proofs.Minimum.{some-at, some-none}
+use Rattle.ground.proofs.Minimum.{some-at, some-none}
 use Rattle.text.specs.Decimal.{isOther, allDigits}
 use borrow.Author.Needs.{needs}
 use Rattle.text.proofs.decimal.all_digits.Statement.{statement}

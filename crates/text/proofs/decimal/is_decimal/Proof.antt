@@ -2,7 +2,7 @@ use lib.ListN.{length}
 -- The length, then a leading zero, then each byte.
 use mathlib.Core.Path.{sym, _∙_}
 use native.Mathlib.Omega.{arith}
-use Rattle.link.proofs.Faults.{below, above, inside}
+use Rattle.ground.proofs.Faults.{below, above, inside}
 use Rattle.text.specs.Decimal.{maxDigits, isDecimal}
 use borrow.Author.Needs.{needs}
 use Rattle.text.proofs.decimal.is_decimal.Statement.{statement}

@@ -1,8 +1,8 @@
 -- Below `0`, or above `9`.
 use mathlib.Core.Path.{sym}
 use borrow.Author.Tests.{le-ltb}
-use Rattle.link.specs.Refusal.{outside}
-use Rattle.link.proofs.Faults.{below}
+use Rattle.ground.specs.Judging.{outside}
+use Rattle.ground.proofs.Faults.{below}
 use Rattle.text.specs.Decimal.{isOther}
 use Rattle.text.proofs.decimal.is_other.Statement.{statement}
 use Rattle.text.proofs.decimal.is_other.Tie as tie

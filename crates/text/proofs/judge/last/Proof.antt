@@ -1,7 +1,7 @@
 -- The bytes behind `end ` are the number; each return says which faults do not apply, and which does.
 use mathlib.Core.Path.{sym, _∙_}
 use borrow.Author.Tests.{not-false, eq-eqb, ne-eqb}
-use Rattle.link.proofs.Faults.{hit, pass, fine}
+use Rattle.ground.proofs.Faults.{hit, pass, fine}
 use Rattle.text.specs.Faults.{lastFaults}
 use Rattle.text.proofs.LineForms.{last-long, not-number, count-said}
 use borrow.Author.Needs.{needs}

@@ -1,6 +1,6 @@
 -- Line one, line two, the last line, or a row.
 use mathlib.Core.Path.{sym, ap, _∙_}
-use Rattle.link.specs.Refusal.{first}
+use Rattle.ground.specs.Judging.{first}
 use Rattle.text.proofs.LineForms.{own-title, own-pair, own-other}
 use borrow.Author.Needs.{needs}
 use Rattle.text.proofs.judge.own.Statement.{statement}

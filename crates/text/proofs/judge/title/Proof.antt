@@ -1,7 +1,7 @@
 -- The line is `pma 1`, or 2.
 use mathlib.Core.Path.{sym, ap, _∙_}
 use mathlib.Core.Bool.{not}
-use Rattle.link.proofs.Faults.{hit, pass, fine}
+use Rattle.ground.proofs.Faults.{hit, pass, fine}
 use Rattle.text.specs.Faults.{titleFaults}
 use borrow.Author.Needs.{needs}
 use Rattle.text.proofs.judge.title.Statement.{statement}

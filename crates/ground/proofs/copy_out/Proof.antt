@@ -1,14 +1,14 @@
 -- Invariant: the first i elements are those of `from`, the rest is as it was.
-use mathlib.Core.Path.{_≡_, refl, sym, ap, _∙_}
-use mathlib.Core.List.{List, _++_}
-use Prim.Native.Nat.{ℕ, _+_, _-_, _≤_, _<_}
+use mathlib.Core.Path.{_≡_, refl, _∙_}
+use mathlib.Core.List.{_++_}
+use Prim.Native.Nat.{_+_, _-_, _≤_}
 use native.Mathlib.Omega.{arith}
-use lib.ListN.{length, getD, take, drop, length-set}
+use lib.ListN.{length, take, drop, length-set}
 use lib.Seq.{take-length}
 use borrow.Author.Needs.{needs}
-use Rattle.link.proofs.Filling.{copied}
-use Rattle.link.proofs.copy_out.Statement.{statement}
-use Rattle.link.proofs.copy_out.Tie as tie
+use Rattle.ground.proofs.Filling.{copied}
+use Rattle.ground.proofs.copy_out.Statement.{statement}
+use Rattle.ground.proofs.copy_out.Tie as tie
 
 abbrev Inv-loop : tie.InvT-loop
 Inv-loop from to₀ i₀ to i = (i ≤ length from) × (length to ≡ length to₀) × (to ≡ take i from ++ drop i to₀)

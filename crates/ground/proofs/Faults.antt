@@ -1,20 +1,15 @@
 -- How code shows which fault of a list is the first. Assumes nothing.
-use mathlib.Core.Path.{_≡_, refl, sym, _∙_, ap, subst}
-use mathlib.Core.Bool.{Bool, true, false, not, _&&_, _||_, cond, or-true}
+use mathlib.Core.Path.{_≡_, refl, sym, _∙_, ap}
+use mathlib.Core.Bool.{Bool, true, false, _&&_, cond, or-true}
 use mathlib.Core.List.{List, [], _∷_, _++_}
 use Prim.Native.Nat.{ℕ, _≤_, _<_}
 use lib.Dec.{ltb}
-use lib.ListN.{length}
-use borrow.Author.Tests.{lt-ltb, le-ltb}
-use Rattle.link.specs.Least.{least}
-use Rattle.link.specs.Refusal.{Cause, when, atRow, first, outside, andThen}
-use Rattle.link.proofs.Bools.{clash, and-parts}
-use Rattle.link.specs.declared.Judged.{Judged}
-use Rattle.link.specs.declared.Judged.the-variants.{Fine, Fault}
-
-abbrev isFine : Judged → Bool
-isFine Fine = true
-isFine (Fault n p) = false
+use borrow.Author.Tests.{lt-ltb, le-ltb, ltb-false}
+use Rattle.ground.specs.Least.{least}
+use Rattle.ground.specs.Judging.{Cause, when, atRow, first, outside, andThen}
+use Rattle.ground.proofs.Bools.{never, and-parts, or-none}
+use Rattle.ground.specs.declared.Judged.{Judged}
+use Rattle.ground.specs.declared.Judged.the-variants.{Fine, Fault}
 
 -- how code shows it, line by line: this one applies; this one does not, and the rest says r
 pub hit : (cs : List Cause) (b : Bool) (n p : ℕ) → b ≡ true → Fault n p ≡ first (when b n p ∷ cs)
@@ -37,7 +32,7 @@ pass-row cs q n number k e h f = rw (← e, le-ltb k n h) f
 -- and what it means that none applies
 pub passed : (b : Bool) (n p : ℕ) (cs : List Cause) → first (when b n p ∷ cs) ≡ Fine → (b ≡ false) × (first cs ≡ Fine)
 unfolding first
-passed true n p cs e = clash {x = isFine (Fault n p)} (ap isFine e) refl
+passed true n p cs e = never (cc)
 passed false n p cs e = (refl, e)
 
 pub fine : Fine ≡ first []
@@ -56,13 +51,17 @@ pub inside : (lo hi x : ℕ) → lo ≤ x → x ≤ hi → outside lo hi x ≡ f
 unfolding outside
 inside lo hi x h k = rw (le-ltb x lo h, le-ltb hi x k)
 
+pub within : (lo hi x : ℕ) → outside lo hi x ≡ false → (lo ≤ x) × (x ≤ hi)
+unfolding outside
+within lo hi x e = let w = or-none (ltb x lo) (ltb hi x) e in (ltb-false _ _ (w .0), ltb-false _ _ (w .1))
+
 abbrev pub orElse : Judged → Judged → Judged
 orElse Fine o = o
 orElse (Fault n p) o = Fault n p
 
 split : (j r : Judged) → orElse j r ≡ Fine → (j ≡ Fine) × (r ≡ Fine)
 split Fine r e = (refl, e)
-split (Fault n p) r e = clash {x = isFine (Fault n p)} (ap isFine e) refl
+split (Fault n p) r e = never (cc)
 
 pub first-append : (xs ys : List Cause) → first (xs ++ ys) ≡ orElse (first xs) (first ys)
 unfolding first
@@ -91,15 +90,11 @@ unfoldable pub allNumbers : (ℕ → Bool) → List Cause → Bool
 allNumbers q [] = true
 allNumbers q (c ∷ cs) = q (c .number) && allNumbers q cs
 
-abbrev numberOf : Judged → ℕ
-numberOf Fine = 0
-numberOf (Fault n p) = n
-
 pub number-of : (q : ℕ → Bool) (cs : List Cause) (n p : ℕ) → allNumbers q cs ≡ true → first cs ≡ Fault n p → q n ≡ true
 unfolding first allNumbers
-number-of q [] n p a e = clash {x = isFine Fine} refl (ap isFine e)
+number-of q [] n p a e = never (cc)
 number-of q (c ∷ cs) n p a e = go (c .applies) e (number-of q cs n p (and-parts (q (c .number)) (allNumbers q cs) a .1))
   where
     go : (b : Bool) → cond b (Fault (c .number) (c .place)) (first cs) ≡ Fault n p → (first cs ≡ Fault n p → q n ≡ true) → q n ≡ true
-    go true f rest = rw (← ap numberOf f) (and-parts (q (c .number)) (allNumbers q cs) a .0)
+    go true f rest = let same : c .number ≡ n = cc in rw (← same) (and-parts (q (c .number)) (allNumbers q cs) a .0)
     go false f rest = rest f

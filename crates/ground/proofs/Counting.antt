@@ -1,0 +1,112 @@
+-- Counting the numbers below n that have a test: gaps, runs, two tests that exclude each other, and the rest. Assumes nothing.
+use mathlib.Core.Path.{_≡_, refl, _∙_, ap}
+use mathlib.Core.Bool.{Bool, true, false, not, cond, _||_}
+use mathlib.Core.Logic.{⊎-elim}
+use Prim.Native.Nat.{ℕ, zero, suc, _+_, _-_, _≤_, _<_}
+use native.Mathlib.Omega.{arith}
+use Rattle.ground.proofs.Bools.{lt-or-ge, is-false, true-or-false}
+use Rattle.ground.specs.Count.{count}
+
+-- what no number from x to before y changes is at y what it was at x
+pub same-up : {A : Type 0} (f : ℕ → A) (x y : ℕ) → x ≤ y → ((s : ℕ) → x ≤ s → s < y → f (suc s) ≡ f s) → f y ≡ f x
+same-up f x zero l h = let e : 0 ≡ x = omega arith in ap f e
+same-up f x (suc y) l h =
+    ⊎-elim (λ m. let e : suc y ≡ x = omega arith in ap f e)
+    (λ m. h y m (omega arith) ∙ same-up f x y m (λ s a b. h s a (omega arith))) (lt-or-ge y x)
+
+module _ (q : ℕ → Bool) where
+  pub count-in : (n : ℕ) → q n ≡ true → count q (suc n) ≡ suc (count q n)
+  unfolding count
+  count-in n e = rw e
+
+  pub count-out : (n : ℕ) → q n ≡ false → count q (suc n) ≡ count q n
+  unfolding count
+  count-out n e = rw e
+
+  pub count-gap : (x y : ℕ) → x ≤ y → ((s : ℕ) → x ≤ s → s < y → q s ≡ false) → count q y ≡ count q x
+  count-gap x y l h = same-up (count q) x y l (λ s a b. count-out s (h s a b))
+
+  pub count-run : (x y : ℕ) → x ≤ y → ((s : ℕ) → x ≤ s → s < y → q s ≡ true) → count q y ≡ count q x + (y - x)
+  count-run x zero l h = let e : 0 ≡ x = omega arith in omega (arith, ap (count q) e)
+  count-run x (suc y) l h =
+      ⊎-elim (λ m. let e : suc y ≡ x = omega arith in omega (arith, ap (count q) e))
+      (λ m. omega (arith, count-in y (h y m (omega arith)), count-run x y m (λ s a b. h s a (omega arith)))) (lt-or-ge y x)
+
+  pub count-low : (n : ℕ) → count q n ≤ n
+  unfolding count
+  count-low zero = omega arith
+  count-low (suc n) =
+      ⊎-elim (λ e. omega (arith, count-low n, count-in n e)) (λ e. omega (arith, count-low n, count-out n e)) (true-or-false (q n))
+
+  pub count-none : (n : ℕ) → count q n ≡ 0 → (s : ℕ) → s < n → q s ≡ false
+  count-none zero h s l = absurd (omega arith)
+  count-none (suc n) h s l =
+      ⊎-elim (λ m. count-none n (omega (arith, count-out n last)) s m) (λ m. let i : s ≡ n = omega arith in rw i last) (lt-or-ge s n)
+    where
+      last : q n ≡ false
+      last = is-false _ (λ e. omega (arith, count-in n e))
+
+pub count-cong : (q r : ℕ → Bool) (n : ℕ) → ((s : ℕ) → s < n → q s ≡ r s) → count q n ≡ count r n
+unfolding count
+count-cong q r zero h = refl
+count-cong q r (suc n) h = rw (h n (omega arith), count-cong q r n (λ s l. h s (omega arith)))
+
+-- the numbers that have a test, and those that have it not
+pub count-not : (q : ℕ → Bool) (n : ℕ) → count (λ s. not (q s)) n + count q n ≡ n
+unfolding count
+count-not q zero = omega arith
+count-not q (suc n) =
+    let i = count-not q n in
+    ⊎-elim (λ e. omega (arith, count-in q n e, count-out (λ s. not (q s)) n (ap not e)))
+    (λ e. omega (arith, count-out q n e, count-in (λ s. not (q s)) n (ap not e))) (true-or-false (q n))
+
+abbrev pub orOf : (ℕ → Bool) → (ℕ → Bool) → ℕ → Bool
+orOf q r s = q s || r s
+
+-- two tests that no number below n has both of
+pub count-or : (q r : ℕ → Bool) (n : ℕ) → ((s : ℕ) → s < n → q s ≡ true → r s ≡ true → ⊥) → count (orOf q r) n ≡ count q n + count r n
+unfolding count
+count-or q r zero h = omega arith
+count-or q r (suc n) h =
+    let i = count-or q r n (λ s l. h s (omega arith)) in
+    ⊎-elim
+    (λ e. let f = is-false (r n) (h n (omega arith) e) in omega (arith, count-in q n e, count-out r n f, count-in (orOf q r) n (rw e)))
+    (λ e. ⊎-elim (λ f. omega (arith, count-out q n e, count-in r n f, count-in (orOf q r) n (rw (e, f))))
+    (λ f. omega (arith, count-out q n e, count-out r n f, count-out (orOf q r) n (rw (e, f)))) (true-or-false (r n)))
+    (true-or-false (q n))
+
+-- some number that is counted
+pub count-some : (q : ℕ → Bool) (n : ℕ) → 0 < count q n → (j : ℕ) × (j < n) × (q j ≡ true)
+unfolding count
+count-some q zero h = absurd (omega arith)
+count-some q (suc n) h =
+    ⊎-elim (λ e. (n, omega arith, e))
+    (λ e. let w = count-some q n (omega (arith, count-out q n e)) in (w .0, omega (arith, w .1), w .2)) (true-or-false (q n))
+
+-- one number loses the property
+pub count-less : (q r : ℕ → Bool) (j n : ℕ) → j < n → q j ≡ true → r j ≡ false → ((i : ℕ) → (i ≡ j → ⊥) → q i ≡ r i)
+    → count q n ≡ suc (count r n)
+count-less q r j zero l e f h = absurd (omega arith)
+count-less q r j (suc n) l e f h = ⊎-elim (λ m. before m (count-less q r j n m e f h)) (λ m. last (omega arith)) (lt-or-ge j n)
+  where
+    before : j < n → count q n ≡ suc (count r n) → count q (suc n) ≡ suc (count r (suc n))
+    before m i =
+        let s = h n (λ t. omega arith) in
+        ⊎-elim (λ t. omega (arith, i, count-in q n (s ∙ t), count-in r n t)) (λ t. omega (arith, i, count-out q n (s ∙ t), count-out r n t))
+        (true-or-false (r n))
+
+    last : n ≡ j → count q (suc n) ≡ suc (count r (suc n))
+    last s =
+        omega (arith, count-in q n (rw s e), count-out r n (rw s f), count-cong q r n (λ i k. h i (λ t. omega arith)))
+
+-- counted from the front
+pub count-front : (q : ℕ → Bool) (n : ℕ) → count q (suc n) ≡ cond (q 0) 1 0 + count (λ i. q (suc i)) n
+unfolding count
+count-front q zero = go (q 0)
+  where
+    go : (b : Bool) → cond b 1 0 ≡ cond b 1 0 + 0
+    go true = refl
+    go false = refl
+count-front q (suc n) =
+    ⊎-elim (λ e. omega (arith, count-in q (suc n) e, count-in (λ i. q (suc i)) n e, count-front q n))
+    (λ e. omega (arith, count-out q (suc n) e, count-out (λ i. q (suc i)) n e, count-front q n)) (true-or-false (q (suc n)))

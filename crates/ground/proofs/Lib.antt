@@ -1,0 +1,9 @@
+-- Laws that are not about links.
+pub mod Bools
+pub mod Minimum
+pub mod Counting
+pub mod Beginning
+pub mod Filling
+pub mod Adding
+pub mod Faults
+pub mod Answers
