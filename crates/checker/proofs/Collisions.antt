@@ -1,5 +1,5 @@
 -- What the walk over the rows can name, and that it is the first collision in document 01's order. Assumes nothing.
-use mathlib.Core.Path.{_≡_, refl, sym, _∙_, ap}
+use mathlib.Core.Path.{_≡_, refl, _∙_, ap}
 use mathlib.Core.Bool.{Bool, true, false, not, cond}
 use mathlib.Core.Logic.{_⊎_, inl, inr, ⊎-elim}
 use mathlib.Core.List.{List}
@@ -13,11 +13,13 @@ use Rattle.ground.specs.declared.Judged.{Judged}
 use Rattle.ground.specs.declared.Judged.the-variants.{Fine, Fault}
 use Rattle.link.specs.declared.Met.{Met}
 use Rattle.link.specs.declared.Met.the-variants.{Nobody, Row}
-use Rattle.ground.proofs.Bools.{clash, lt-or-ge}
+use Rattle.ground.specs.Protocol.{unless}
+use Rattle.ground.proofs.Answers.{let-through, Told, stopped, through, told}
+use Rattle.ground.proofs.Bools.{clash, never, lt-or-ge}
 use Rattle.link.proofs.Circle.{meets-true, meets-slot}
 use Rattle.link.proofs.Meeting.{FirstHit, hit-is, hit-either}
 use Rattle.ground.proofs.Minimum.{least-is, none-has, some-at}
-use Rattle.checker.specs.Answer.{Said, Verdict, clear, collision, refusal, clearly, colliding, metBy, blocked, nameAs, named, unless}
+use Rattle.checker.specs.Answer.{Said, Verdict, clearly, colliding, refusing, metBy, blocked, nameAs, named}
 use Rattle.checker.specs.Order.{Collides, NotAfter, FirstCollision}
 use Rattle.checker.proofs.Naming.{met-blocked}
 
@@ -35,7 +37,7 @@ naming p l ds os = go (some (blocked p l ds os) (length ds)) refl
     at = least (blocked p l ds os) (length ds)
 
     pick : (m : Met) → metBy p l ds os at ≡ m → at < length ds → not (isNobody m) ≡ true → Naming p l ds os (nameAs at m)
-    pick Nobody e h b = clash {x = false} b refl
+    pick Nobody e h b = never (cc)
     pick (Row i c) e h b = earliest i at c h (least-is (blocked p l ds os) (length ds) .before) e
 
     go : (b : Bool) → some (blocked p l ds os) (length ds) ≡ b → Naming p l ds os (cond b (nameAs at (metBy p l ds os at)) clearly)
@@ -44,36 +46,47 @@ naming p l ds os = go (some (blocked p l ds os) (length ds)) refl
         pick (metBy p l ds os at) refl h (met-blocked p l ds os at ∙ least-is (blocked p l ds os) (length ds) .here h)
     go false e = nobody (none-has (blocked p l ds os) (length ds) e)
 
-abbrev isClear : Verdict → Bool
-isClear clear = true
-isClear collision = false
-isClear refusal = false
-
-abbrev isCollision : Verdict → Bool
-isCollision clear = false
-isCollision collision = true
-isCollision refusal = false
+-- one verdict is not another
+abbrev verdict : Said → Verdict
+verdict s = s .verdict
 
 module _ (p l : ℕ) (ds os : List ℕ) where
-  pub clear-told : (f : Judged) (s : Said) → Naming p l ds os s → clearly ≡ unless f s
-      → (f ≡ Fine) × ((j : ℕ) → j < length ds → blocked p l ds os j ≡ false)
-  clear-told Fine s (nobody b) e = (refl, b)
-  clear-told Fine s (earliest i j c h b m) e = clash {x = false} (sym (ap (λ (x : Said). isClear (x .verdict)) e)) refl
-  clear-told (Fault n q) s w e = clash {x = false} (sym (ap (λ (x : Said). isClear (x .verdict)) e)) refl
-
   pub record Earliest (i j c : ℕ) : Type 0 where
     pub row : j < length ds
     pub before : (m : ℕ) → m < j → blocked p l ds os m ≡ false
     pub met : metBy p l ds os j ≡ Row i c
 
-  pub collision-told : (f : Judged) (s : Said) (i j c : ℕ) → Naming p l ds os s → colliding i j c ≡ unless f s → (f ≡ Fine) × Earliest i j c
-  collision-told Fine s i j c (nobody b) e = clash {x = false} (sym (ap (λ (x : Said). isCollision (x .verdict)) e)) refl
-  collision-told Fine s i j c (earliest i′ j′ c′ h b m) e =
-      let u : i ≡ i′ = ap (λ (x : Said). x .earlier) e in
-      let v : j ≡ j′ = ap (λ (x : Said). x .later) e in
-      let w : c ≡ c′ = ap (λ (x : Said). x .crossing) e in
-      rw (u, v, w) (refl, record { row = h; before = b; met = m })
-  collision-told (Fault n q) s i j c w e = clash {x = false} (sym (ap (λ (x : Said). isCollision (x .verdict)) e)) refl
+  -- what an answer says of the judging, and of the rows
+  pub clear-told : (f : Judged) {s : Said} → Naming p l ds os s → clearly ≡ unless refusing f s
+      → (f ≡ Fine) × ((j : ℕ) → j < length ds → blocked p l ds os j ≡ false)
+  clear-told f {s} w e = let t = let-through refusing f (λ n q h. never (cc (ap verdict h))) e in (t .0, go w (t .1))
+    where
+      go : {x : Said} → Naming p l ds os x → clearly ≡ x → (j : ℕ) → j < length ds → blocked p l ds os j ≡ false
+      go (nobody b) h = b
+      go (earliest i j c r b m) h = never (cc (ap verdict h))
+
+  pub collision-told : (f : Judged) {s : Said} (i j c : ℕ) → Naming p l ds os s → colliding i j c ≡ unless refusing f s
+      → (f ≡ Fine) × Earliest i j c
+  collision-told f {s} i j c w e = let t = let-through refusing f (λ n q h. never (cc (ap verdict h))) e in (t .0, go w (t .1))
+    where
+      go : {x : Said} → Naming p l ds os x → colliding i j c ≡ x → Earliest i j c
+      go (nobody b) h = never (cc (ap verdict h))
+      go (earliest i′ j′ c′ r b m) h =
+          let u : i ≡ i′ = ap (λ (x : Said). x .earlier) h in
+          let v : j ≡ j′ = ap (λ (x : Said). x .later) h in
+          let w : c ≡ c′ = ap (λ (x : Said). x .crossing) h in
+          rw (u, v, w) (record { row = r; before = b; met = m })
+
+  pub refusal-told : (f : Judged) {s : Said} (n q : ℕ) → Naming p l ds os s → refusing n q ≡ unless refusing f s → f ≡ Fault n q
+  refusal-told f {s} n q w e = go (told refusing f e) w
+    where
+      go : {x : Said} → Told refusing f x (refusing n q) → Naming p l ds os x → f ≡ Fault n q
+      go (stopped m z g h) y =
+          let u : n ≡ m = ap (λ (x : Said). x .number) h in
+          let v : q ≡ z = ap (λ (x : Said). x .place) h in
+          rw (u, v) g
+      go (through g h) (nobody b) = never (cc (ap verdict h))
+      go (through g h) (earliest i j c r b m) = never (cc (ap verdict h))
 
   collides-blocked : 0 < p → (i j : ℕ) (c : Crossing) → Collides p l ds os i j c → blocked p l ds os j ≡ true
   unfolding blocked free hits start

@@ -25,7 +25,7 @@ module _ (p l : ℕ) (ds os : List ℕ) where
   unblocked : (j : ℕ) → metBy p l ds os j ≡ Nobody → blocked p l ds os j ≡ false
   unblocked j e = sym (met-blocked j) ∙ ap (λ (m : Met). not (isNobody m)) e
 
-  hit : (j i c : ℕ) → metBy p l ds os j ≡ Row i c → blocked p l ds os j ≡ true
+  pub hit : (j i c : ℕ) → metBy p l ds os j ≡ Row i c → blocked p l ds os j ≡ true
   hit j i c e = sym (met-blocked j) ∙ ap (λ (m : Met). not (isNobody m)) e
 
   named-at : (j i c : ℕ) → j < length ds → ((m : ℕ) → m < j → blocked p l ds os m ≡ false) → metBy p l ds os j ≡ Row i c

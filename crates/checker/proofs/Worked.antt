@@ -3,6 +3,7 @@ use mathlib.Core.Path.{_≡_, refl}
 use mathlib.Core.List.{List, [], _∷_}
 use Prim.Native.Nat.{ℕ}
 use Rattle.ground.specs.Least.{least, oneMore}
+use Rattle.ground.specs.declared.Judged.the-variants.{Fine}
 use Rattle.link.specs.Range.{GoodPlan}
 use Rattle.ground.specs.Judging.{first, outside, andThen}
 use Rattle.link.specs.Refusal.{linkFaults, rowFaults, offsetFaults}
@@ -11,8 +12,10 @@ use Rattle.link.specs.Slots.{uses, meets}
 use Rattle.link.specs.declared.Link.{Link}
 use Rattle.checker.specs.Answer.{said, metBy, blocked, named, answer}
 use Rattle.checker.specs.Order.{FirstCollision}
+use Rattle.checker.specs.Judging.{clearFaults}
+use Rattle.checker.specs.declared.Checked.{Checked}
 use Rattle.checker.specs.declared.Checked.the-variants.{Clear as Clearly, Collision}
-use Rattle.checker.proofs.Promises.{clear-exactly, collision-is-first}
+use Rattle.checker.proofs.Promises.{no-second, clear-exactly, collision-is-first, collision-exactly, let-through-exactly}
 
 abbrev link : Link
 link = record { period = 10; size = 2 }
@@ -36,3 +39,12 @@ clears = refl
 
 pub no-two-meet : GoodPlan link delays (0 ∷ 2 ∷ 5 ∷ []) × Clear 10 2 delays (0 ∷ 2 ∷ 5 ∷ [])
 no-two-meet = clear-exactly link delays (0 ∷ 2 ∷ 5 ∷ []) Clearly clears .0 refl
+
+pub only-clear : (r : Checked) → said r ≡ answer link delays (0 ∷ 2 ∷ 5 ∷ []) → r ≡ Clearly
+only-clear r e = no-second link delays (0 ∷ 2 ∷ 5 ∷ []) r Clearly e clears
+
+pub not-clear : Clear 10 2 delays (0 ∷ 2 ∷ 4 ∷ []) → ⊥
+not-clear = collision-exactly link delays (0 ∷ 2 ∷ 4 ∷ []) (Collision 0 2 2) collides .0 (0, 2, 2, refl) .1
+
+pub let-through : first (clearFaults link delays (0 ∷ 2 ∷ 5 ∷ [])) ≡ Fine
+let-through = let-through-exactly link delays (0 ∷ 2 ∷ 5 ∷ []) .1 no-two-meet

@@ -6,10 +6,9 @@ use lib.ListN.{length, getD}
 use Rattle.ground.specs.Least.{least, some}
 use Rattle.link.specs.Rows.{spanOf, metAt, free}
 use Rattle.ground.specs.Judging.{first}
+use Rattle.ground.specs.Protocol.{unless}
 use Rattle.link.specs.Refusal.{planFaults}
 use Rattle.link.specs.declared.Link.{Link}
-use Rattle.ground.specs.declared.Judged.{Judged}
-use Rattle.ground.specs.declared.Judged.the-variants.{Fine, Fault}
 use Rattle.link.specs.declared.Met.{Met}
 use Rattle.link.specs.declared.Met.the-variants.{Nobody, Row}
 use Rattle.checker.specs.declared.Checked.{Checked}
@@ -63,11 +62,6 @@ named p l ds os =
     (nameAs (least (blocked p l ds os) (length ds)) (metBy p l ds os (least (blocked p l ds os) (length ds))))
     clearly
 
--- a fault is the answer, else s is
-abbrev pub unless : Judged → Said → Said
-unless Fine s = s
-unless (Fault n p) s = refusing n p
-
 -- 5, 6, 8, 7, 11, 17, then the collision, or clear
 unfoldable pub answer : Link → List ℕ → List ℕ → Said
-answer k ds os = unless (first (planFaults k ds os)) (named (k .period) (spanOf k) ds os)
+answer k ds os = unless refusing (first (planFaults k ds os)) (named (k .period) (spanOf k) ds os)

@@ -3,9 +3,12 @@ use ground::Judged;
 use link::Link;
 use link::Met;
 use link::limits::MAX_ROWS;
+use link::limits::NOT_CLEAR;
 ghost use mathlib.Core.Path.{_≡_};
+ghost use Rattle.ground.specs.Judging.{first};
 ghost use Rattle.link.specs.Range.{InRange};
 ghost use Rattle.checker.specs.Answer.{said, answer, named};
+ghost use Rattle.checker.specs.Judging.{clearFaults};
 
 pub enum Checked {
     Clear,
@@ -27,6 +30,24 @@ pub fn check(link: Link, delays: &[u32], offsets: &[u32]) -> Checked
     match link::judge::plan(link, delays, offsets) {
         Judged::Fault { number, place } => Checked::Refused { number, place },
         Judged::Fine => first_collision(link.period, link::span(link), delays, offsets),
+    }
+}
+
+// A plan that is to be clear: what `check` refuses, and 18 at the later row of the collision that it names.
+pub fn judge_clear(link: Link, delays: &[u32], offsets: &[u32]) -> Judged
+    ensures { λ r. ⌜ r ≡ first (clearFaults link (now (delays .entry)) (now (offsets .entry))) ⌝ }
+{
+    match check(link, delays, offsets) {
+        Checked::Refused { number, place } => Judged::Fault { number, place },
+        Checked::Collision {
+            earlier: _,
+            later,
+            crossing: _,
+        } => Judged::Fault {
+            number: NOT_CLEAR,
+            place: later,
+        },
+        Checked::Clear => Judged::Fine,
     }
 }
 
