@@ -4,4 +4,5 @@ pub mod Placing
 pub mod Entries
 pub mod Sound
 pub mod Promises
+pub mod FirstFit
 pub mod Worked

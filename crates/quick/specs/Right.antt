@@ -1,11 +1,12 @@
 -- What it is for rows to be placed right, said without the planner: the laws in proofs/Sound say that `placed` is this.
 use mathlib.Core.Path.{_≡_}
 use mathlib.Core.Bool.{true, false}
-use mathlib.Core.List.{List, _++_}
+use mathlib.Core.List.{List}
 use Prim.Native.Nat.{ℕ, _*_, _≤_, _<_}
-use lib.ListN.{length, getD, drop}
+use lib.ListN.{length, getD}
+use Rattle.ground.specs.Lent.{onFront}
 use Rattle.link.specs.Range.{GoodTable}
-use Rattle.link.specs.Rows.{spanOf, Clear}
+use Rattle.link.specs.Rows.{spanOf, free, Clear}
 use Rattle.link.specs.declared.Link.{Link}
 use Rattle.quick.specs.Plan.{freeAt}
 
@@ -34,7 +35,7 @@ pub record GivenPlan (k : Link) (ds old : List ℕ) (step count : ℕ) (new : Li
   pub room : length ds ≤ length old
   pub offsets : List ℕ
   pub right : Placed (k .period) (spanOf k) ds step count (length ds) offsets
-  pub written : new ≡ offsets ++ drop (length offsets) old
+  pub written : new ≡ onFront offsets old
   pub clear : Clear (k .period) (spanOf k) ds offsets
 
 -- a row that has no offset, in a table in range
@@ -43,3 +44,9 @@ pub record NoOffset (k : Link) (ds old : List ℕ) (step count j : ℕ) : Type 0
   pub room : length ds ≤ length old
   pub row : j < length ds
   pub stuck : Stuck (k .period) (spanOf k) ds step count j
+
+-- First Fit in its own words: the offset of row j is free, and no smaller one is
+pub record LeastFreeOffset (p l : ℕ) (ds os : List ℕ) (j : ℕ) : Type 0 where
+  pub low : getD os j 0 < p
+  pub is-free : free p l ds os j (getD ds j 0) (getD os j 0) ≡ true
+  pub least : (a : ℕ) → a < getD os j 0 → free p l ds os j (getD ds j 0) a ≡ false

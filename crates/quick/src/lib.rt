@@ -9,8 +9,9 @@ ghost use Prim.Native.Nat.{_≤_};
 ghost use lib.ListN.{length};
 ghost use Rattle.link.specs.Limits.{maxRows};
 ghost use Rattle.ground.specs.Least.{least};
+ghost use Rattle.ground.specs.Protocol.{gives};
 ghost use Rattle.quick.specs.Plan.{placed};
-ghost use Rattle.quick.specs.Answer.{said, gives, outcome, firstFit, metaOffset};
+ghost use Rattle.quick.specs.Answer.{said, outcome, firstFit, metaOffset};
 ghost use Rattle.quick.specs.Ways.{Ways, openTo};
 
 pub enum Planned {

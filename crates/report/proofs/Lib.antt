@@ -1,5 +1,4 @@
 -- Laws that belong to no one function.
-pub mod Counts
 pub mod Widths
 pub mod Summed
 pub mod Stretches
@@ -7,6 +6,5 @@ pub mod Covering
 pub mod Walking
 pub mod Crossings
 pub mod Total
-pub mod Judging
 pub mod Promises
 pub mod Worked

@@ -1,6 +1,6 @@
 -- What the stretch report promises. Assumes nothing.
 use mathlib.Core.Path.{_≡_, refl, sym, _∙_, ap}
-use mathlib.Core.Bool.{Bool, true, false}
+use mathlib.Core.Bool.{Bool}
 use mathlib.Core.Logic.{_↔_}
 use mathlib.Core.List.{List}
 use Prim.Native.Nat.{ℕ, _+_, _-_, _*_, _≤_, _<_}
@@ -11,20 +11,21 @@ use Rattle.link.specs.Range.{GoodPlan}
 use Rattle.link.specs.Rows.{Crossing, one, two, spanOf, Clear}
 use Rattle.link.specs.declared.Link.{Link}
 use Rattle.link.proofs.Accepted.{in-range}
-use Rattle.ground.proofs.Bools.{clash}
-use Rattle.ground.proofs.Answers as unique
-use Rattle.checker.specs.Answer.{clear, collision, refusal}
-use Rattle.checker.specs.Answer as checker
-use Rattle.checker.specs.declared.Checked.{Checked}
-use Rattle.checker.specs.declared.Checked.the-variants as checked
-use Rattle.report.specs.Runs.{countOf, begins, Run, Longest, runs, totalOf}
+use Rattle.ground.specs.Judging.{first}
+use Rattle.ground.specs.declared.Judged.the-variants.{Fine}
+use Rattle.ground.proofs.Bools.{never}
+use Rattle.ground.proofs.Answers.{refused, goes-on, let-through}
+use Rattle.ground.proofs.Answers as answers
+use Rattle.checker.specs.Judging.{clearFaults}
+use Rattle.checker.specs.Order.{FirstCollision}
+use Rattle.checker.proofs.Judging.{clear-fine, fine-clear, unclear}
+use Rattle.ground.specs.Count.{count}
+use Rattle.report.specs.Runs.{runBegins, Run, Longest, runs, totalOf}
 use Rattle.report.specs.Free.{isFree, stretchOf}
-use Rattle.report.specs.Answer.{Verdict, reported, refused, Said, noStretch, telling, said, told, onClear, answer}
+use Rattle.report.specs.Answer.{Verdict, reported, refused as refusedly, Said, noStretch, telling, refusing, said, told, answer}
 use Rattle.report.specs.declared.Stretch.{Stretch}
 use Rattle.report.specs.declared.Reported.{Reported}
 use Rattle.report.specs.declared.Reported.the-variants.{Stretches, Refused}
-use Rattle.checker.proofs.Verdicts.{clear-plan, plan-clear}
-use Rattle.report.proofs.Judging.{collision-refused}
 use Rattle.report.proofs.Stretches.{exactly-longest, none-wider, one-as-wide}
 use Rattle.report.proofs.Summed.{total-count, nothing-free}
 use Rattle.report.proofs.Total.{free-total}
@@ -32,7 +33,7 @@ use Rattle.report.proofs.Widths.{runs-number}
 
 abbrev unsaidAs : Verdict → Said → Reported
 unsaidAs reported s = Stretches (s .first) (s .second)
-unsaidAs refused s = Refused (s .number) (s .place)
+unsaidAs refusedly s = Refused (s .number) (s .place)
 
 abbrev unsaid : Said → Reported
 unsaid s = unsaidAs (s .verdict) s
@@ -44,20 +45,7 @@ again (Refused n p) = refl
 
 -- no second answer meets the contract
 pub no-second : (k : Link) (ds os : List ℕ) (r s : Reported) → said r ≡ answer k ds os → said s ≡ answer k ds os → r ≡ s
-no-second k ds os r s = unique.no-second said unsaid again
-
-abbrev isReported : Said → Bool
-isReported s = cases (s .verdict)
-  where
-    cases : Verdict → Bool
-    cases reported = true
-    cases refused = false
-
--- a report comes of the verdict clear alone
-only-clear : (v : checker.Verdict) (n p j : ℕ) (s x : Said) → isReported x ≡ true → x ≡ onClear v n p j s → (v ≡ clear) × (x ≡ s)
-only-clear clear n p j s x t e = (refl, e)
-only-clear collision n p j s x t e = clash t (ap isReported e)
-only-clear refusal n p j s x t e = clash t (ap isReported e)
+no-second k ds os r s = answers.no-second said unsaid again
 
 -- the crossing c of both
 abbrev pub of : Crossing → Stretch → Stretch → Stretch
@@ -74,25 +62,30 @@ module _ (k : Link) (ds os : List ℕ) where
 
   told-of-clear : GoodPlan k ds os → Clear (k .period) (spanOf k) ds os → said (Stretches (numbersOf one) (numbersOf two)) ≡ answer k ds os
   unfolding said answer told
-  told-of-clear g c = rw (← plan-clear k ds os g c)
+  told-of-clear g c = goes-on refusing (sym (clear-fine k ds os g c)) refl
 
   module _ (r : Reported) (e : said r ≡ answer k ds os) where
     told-so : (a b : Stretch) → r ≡ Stretches a b →
-        (checker.answer k ds os .verdict ≡ clear) × (telling a b ≡ told (k .period) (k .size) ds os)
+        (first (clearFaults k ds os) ≡ Fine) × (telling a b ≡ told (k .period) (k .size) ds os)
     unfolding said answer
-    told-so a b f = only-clear (checker.answer k ds os .verdict) _ _ _ _ (telling a b) refl (ap said (sym f) ∙ e)
+    told-so a b f =
+        let-through refusing (first (clearFaults k ds os)) (λ n q h. never (cc (ap (λ (s : Said). s .verdict) h))) (ap said (sym f) ∙ e)
 
     -- "For a clear plan": the report is given exactly then
     pub reports-exactly : ((a : Stretch) × (b : Stretch) × (r ≡ Stretches a b)) ↔ (GoodPlan k ds os × Clear (k .period) (spanOf k) ds os)
     reports-exactly = (
-      λ w. clear-plan k ds os (told-so (w .0) (w .1) (w .2) .0),
+      λ w. fine-clear k ds os (told-so (w .0) (w .1) (w .2) .0),
       λ w. (numbersOf one, numbersOf two, no-second k ds os r _ e (told-of-clear (w .0) (w .1))),
     )
 
     -- "A plan that isn't clear is refused with 18", at "the row .. of the collision the checker names"
-    pub not-clear-refused : (c : Checked) → checker.said c ≡ checker.answer k ds os →
-        (i j x : ℕ) → c ≡ checked.Collision i j x → r ≡ Refused notClear j
-    not-clear-refused c f i j x g = no-second k ds os r (Refused notClear j) e (collision-refused k ds os c f i j x g)
+    pub not-clear-refused : GoodPlan k ds os → (Clear (k .period) (spanOf k) ds os → ⊥)
+        → (i : ℕ) × (j : ℕ) × (n : ℕ) × FirstCollision (k .period) (spanOf k) ds os i j n × (r ≡ Refused notClear j)
+    unfolding said answer
+    not-clear-refused g c =
+        let w = unclear k ds os g c in
+        let s : said (Refused notClear (w .0)) ≡ answer k ds os = refused refusing _ (w .1 .judged) in
+        (w .1 .earlier, w .0, w .1 .crossing, w .1 .first-one, no-second k ds os r (Refused notClear (w .0)) e s)
 
     module _ (a b : Stretch) (f : r ≡ Stretches a b) where
       -- "For .. each crossing: the number of free slots, the number of free stretches, and the length of the widest"
@@ -105,12 +98,12 @@ module _ (k : Link) (ds os : List ℕ) where
       pub with-used : (c : Crossing) → of c a b .free + length ds * k .size ≡ k .period
       unfolding stretchOf
       with-used c =
-          let w = clear-plan k ds os (told-so a b f .0) in
+          let w = fine-clear k ds os (told-so a b f .0) in
           let total = free-total (k .period) (spanOf k) (k .size) ds os (in-range k ds os (w .0)) (omega arith) (w .1) c in
           omega (arith, ap (λ (s : Stretch). s .free) (numbers c))
 
       -- "The free slots are counted slot by slot;
-      pub counted : (c : Crossing) → of c a b .free ≡ countOf (freeIn c) (k .period)
+      pub counted : (c : Crossing) → of c a b .free ≡ count (freeIn c) (k .period)
       unfolding stretchOf
       counted c = ap (λ (s : Stretch). s .free) (numbers c)
 
@@ -123,7 +116,7 @@ module _ (k : Link) (ds os : List ℕ) where
       left-over c = omega (arith, with-used c)
 
       -- "the number of free stretches": one for each free slot that is slot 0 or comes after a used one
-      pub stretches-counted : (c : Crossing) → of c a b .stretches ≡ countOf (begins (freeIn c)) (k .period)
+      pub stretches-counted : (c : Crossing) → of c a b .stretches ≡ count (runBegins (freeIn c)) (k .period)
       unfolding stretchOf
       stretches-counted c = ap (λ (s : Stretch). s .stretches) (numbers c) ∙ runs-number _ (k .period) (k .period)
 

@@ -8,7 +8,7 @@ use Prim.Native.Nat.{ℕ, zero, suc, _+_, _-_, _≤_, _<_, max}
 use native.Mathlib.Omega.{arith}
 use lib.ListN.{length}
 use Rattle.ground.proofs.Bools.{clash, lt-or-ge, true-or-false}
-use Rattle.report.specs.Runs.{begins, width, Run, Within, Longest, runsBelow, runs, widestOf}
+use Rattle.report.specs.Runs.{runBegins, width, Run, Within, Longest, runsBelow, runs, widestOf}
 use Rattle.report.proofs.Widths.{begins-here, begins-has, begins-after, width-fits, width-each, width-end, width-at, width-more, runs-in, runs-out}
 
 module _ (q : ℕ → Bool) (n : ℕ) where
@@ -18,7 +18,7 @@ module _ (q : ℕ → Bool) (n : ℕ) where
 
   -- r is the run that begins at a number below m
   abbrev From : ℕ → Run → Type 0
-  From m r = (a : ℕ) × (a < m) × (begins q a ≡ true) × (r ≡ from a)
+  From m r = (a : ℕ) × (a < m) × (runBegins q a ≡ true) × (r ≡ from a)
 
   from-more : (m : ℕ) (r : Run) → From m r → From (suc m) r
   from-more m r w = (w .0, omega (arith, w .1), w .2, w .3)
@@ -30,19 +30,19 @@ module _ (q : ℕ → Bool) (n : ℕ) where
       ⊎-elim
       (λ e. ⊎-elim (λ i. (m, omega arith, e, i)) (λ t. from-more m r (member-from m r t))
       (List·Memᴰ·cases-cons (rw (runs-in q n m e) at h)))
-      (λ e. from-more m r (member-from m r (rw (runs-out q n m e) at h))) (true-or-false (begins q m))
+      (λ e. from-more m r (member-from m r (rw (runs-out q n m e) at h))) (true-or-false (runBegins q m))
 
   member-more : (m : ℕ) (r : Run) → List·Memᴰ r (runsBelow q n m) → List·Memᴰ r (runsBelow q n (suc m))
   member-more m r h =
-      ⊎-elim (λ e. rw (runs-in q n m e) (List·Memᴰ·tail h)) (λ e. rw (runs-out q n m e) h) (true-or-false (begins q m))
+      ⊎-elim (λ e. rw (runs-in q n m e) (List·Memᴰ·tail h)) (λ e. rw (runs-out q n m e) h) (true-or-false (runBegins q m))
 
-  has-from : (m a : ℕ) → a < m → begins q a ≡ true → List·Memᴰ (from a) (runsBelow q n m)
+  has-from : (m a : ℕ) → a < m → runBegins q a ≡ true → List·Memᴰ (from a) (runsBelow q n m)
   has-from zero a l e = absurd (omega arith)
   has-from (suc m) a l e =
       ⊎-elim (λ b. member-more m (from a) (has-from m a b e))
       (λ b. let i : a ≡ m = omega arith in rw (runs-in q n m (rw i at e)) (List·Memᴰ·head (ap from i))) (lt-or-ge a m)
 
-  longest-from : (a : ℕ) → a < n → begins q a ≡ true → Longest q n (from a)
+  longest-from : (a : ℕ) → a < n → runBegins q a ≡ true → Longest q n (from a)
   longest-from a l e =
       record {
         some = omega (arith, width-more q n a l (begins-has q a e));
@@ -52,7 +52,7 @@ module _ (q : ℕ → Bool) (n : ℕ) where
         after = width-end q n a;
       }
 
-  from-longest : (r : Run) → Longest q n r → (begins q (r .first) ≡ true) × (r ≡ from (r .first))
+  from-longest : (r : Run) → Longest q n r → (runBegins q (r .first) ≡ true) × (r ≡ from (r .first))
   from-longest r w =
       let wide = width-at q n (r .first) (r .wide) (w .inside) (λ s a b. w .each s (a, b)) (w .after) in (
         begins-here q (r .first) (w .each (r .first) (omega (arith, w .some))) (w .before),
@@ -68,9 +68,9 @@ module _ (q : ℕ → Bool) (n : ℕ) where
 
   -- a run began at a number up to s, and has gone on to s
   abbrev Begun : ℕ → Type 0
-  Begun s = (a : ℕ) × (a ≤ s) × (begins q a ≡ true) × ((u : ℕ) → a ≤ u → u ≤ s → q u ≡ true)
+  Begun s = (a : ℕ) × (a ≤ s) × (runBegins q a ≡ true) × ((u : ℕ) → a ≤ u → u ≤ s → q u ≡ true)
 
-  begun-now : (s : ℕ) → q s ≡ true → begins q s ≡ true → Begun s
+  begun-now : (s : ℕ) → q s ≡ true → runBegins q s ≡ true → Begun s
   begun-now s e b = (s, omega arith, b, λ u l m. let i : u ≡ s = omega arith in rw i e)
 
   begun-before : (s : ℕ) → q (suc s) ≡ true → Begun s → Begun (suc s)
@@ -82,7 +82,7 @@ module _ (q : ℕ → Bool) (n : ℕ) where
   )
 
   begun : (s : ℕ) → q s ≡ true → Begun s
-  unfolding begins
+  unfolding runBegins
   begun zero e = begun-now 0 e e
   begun (suc s) e =
       ⊎-elim (λ t. begun-before s e (begun s t))

@@ -17,11 +17,11 @@ use Rattle.ground.proofs.Bools.{is-false, lt-or-ge}
 use Rattle.link.proofs.Circle.{uses-true, uses-slot}
 use Rattle.link.proofs.Meeting.{start-low}
 use Rattle.ground.proofs.Minimum.{some-none, some-has, some-more}
-use Rattle.report.specs.Runs.{countOf}
+use Rattle.ground.specs.Count.{count}
 use Rattle.report.specs.Free.{usedOf, freeOf, isFree}
-use Rattle.report.proofs.Counts.{count-gap, count-run, count-cong, count-or, count-not}
+use Rattle.ground.proofs.Counting.{count-gap, count-run, count-cong, count-or, count-not}
 use Rattle.report.proofs.Covering.{Covers, covered, outside}
-use Rattle.link.proofs.Clearness.{narrower}
+use Rattle.link.proofs.Clearness.{clear-in, narrower}
 
 module _ (p t a : ℕ) (ha : a < p) (ht : t ≤ p) where
   used : (s : ℕ) → s < p → Covers p t a s → uses p t a s ≡ true
@@ -31,18 +31,18 @@ module _ (p t a : ℕ) (ha : a < p) (ht : t ≤ p) where
   unused s l f h = is-false _ (λ e. outside p t a s ha ht l f h (uses-slot p t a s e))
 
   -- "it uses T slots"
-  pub count-uses : countOf (uses p t a) p ≡ t
-  unfolding countOf
+  pub count-uses : count (uses p t a) p ≡ t
+  unfolding count
   count-uses = ⊎-elim over within (lt-or-ge p (a + t))
     where
-      within : a + t ≤ p → countOf (uses p t a) p ≡ t
+      within : a + t ≤ p → count (uses p t a) p ≡ t
       within h =
           let e = count-gap (uses p t a) 0 a (omega arith) (λ s l m. unused s (omega arith) (λ h. omega arith) (omega arith)) in
           let f = count-run (uses p t a) a (a + t) (omega arith) (λ s l m. used s (omega arith) (inl (l, m))) in
           let g = count-gap (uses p t a) (a + t) p h (λ s l m. unused s m (λ h. omega arith) (omega arith)) in
           omega arith
 
-      over : p < a + t → countOf (uses p t a) p ≡ t
+      over : p < a + t → count (uses p t a) p ≡ t
       over h =
           let e = count-run (uses p t a) 0 (a + t - p) (omega arith) (λ s l m. used s (omega arith) (inr (omega arith))) in
           let f = count-gap (uses p t a) (a + t - p) a (omega arith) (λ s l m. unused s (omega arith) (λ h. omega arith) (omega arith)) in
@@ -64,23 +64,23 @@ module _ (p t : ℕ) (starts : ℕ → ℕ) (n : ℕ) (ht : t ≤ p) (low : (i :
   unfolding usedOf
   none-used s = some-none _ 0 (λ i l. absurd (omega arith))
 
-  count-used : (k : ℕ) → k ≤ n → countOf (usedOf p t starts k) p ≡ k * t
-  unfolding countOf
+  count-used : (k : ℕ) → k ≤ n → count (usedOf p t starts k) p ≡ k * t
+  unfolding count
   count-used zero l = count-gap (usedOf p t starts 0) 0 p (omega arith) (λ s _ _. none-used s) ∙ sym (zero-mul t)
   count-used (suc k) l =
       let e = count-cong (usedOf p t starts (suc k)) (λ s. usedOf p t starts k s || uses p t (starts k) s) p (λ s _. used-more k s) in
       let f = count-or (usedOf p t starts k) (uses p t (starts k)) p (λ s _. used-before k s l) in
       omega (arith, count-used k (omega arith), count-uses p t (starts k) (low k l) ht, suc-mul k t)
 
-  pub count-free : countOf (freeOf p t starts n) p + n * t ≡ p
+  pub count-free : count (freeOf p t starts n) p + n * t ≡ p
   unfolding freeOf
   count-free = omega (arith, count-not (usedOf p t starts n) p, count-used n (omega arith))
 
 -- "and P - nT are all equal": of a plan that is clear at the distance l, which the size does not pass
 module _ (p l t : ℕ) (ds os : List ℕ) (r : InRange p l ds os) (h : t ≤ l) (k : Clear p l ds os) where
-  pub free-total : (c : Crossing) → countOf (isFree p t ds os c) p + length ds * t ≡ p
+  pub free-total : (c : Crossing) → count (isFree p t ds os c) p + length ds * t ≡ p
   unfolding start
   free-total c =
       count-free p t (start p ds os c) (length ds) (omega (arith, r .span-high))
       (λ i m. start-low p c _ _ (r .offsets i (omega (arith, r .as-many))))
-      (λ i j s a b u v. narrower p l t ds os h k .apart c i j a b (s, uses-slot p t _ s u, uses-slot p t _ s v))
+      (λ i j s a b u v. clear-in (narrower p l t ds os h k) c .apart i j a b (s, uses-slot p t _ s u, uses-slot p t _ s v))

@@ -7,23 +7,24 @@ use native.Mathlib.Omega.{arith}
 use native.Mathlib.Numerals.{add-one}
 use lib.ListN.{length}
 use Rattle.ground.proofs.Bools.{clash}
-use Rattle.report.specs.Runs.{countOf, begins, width, runsBelow, widestOf}
+use Rattle.ground.specs.Count.{count}
+use Rattle.report.specs.Runs.{runBegins, width, runsBelow, widestOf}
 use Rattle.report.specs.Free.{stretchOf}
 use Rattle.report.specs.Steps.{Placed, freeAt, CoveredTo, NextStart}
 use Rattle.report.proofs.Covering.{free-up-to, used-at-start, next-above}
-use Rattle.report.proofs.Counts.{same-up, count-gap, count-run, count-low}
+use Rattle.ground.proofs.Counting.{same-up, count-gap, count-run, count-low}
 use Rattle.report.proofs.Widths.{begins-here, begins-not, goes-on, width-at, runs-in, runs-out, runs-number}
 
 -- the numbers are those of the slots below x, and if x has the test then a run begins there
 pub record Walked (q : ℕ → Bool) (n x free stretches widest : ℕ) : Type 0 where
   pub low : x ≤ n
-  pub counted : free ≡ countOf q x
+  pub counted : free ≡ count q x
   pub number : stretches ≡ length (runsBelow q n x)
   pub wide : widest ≡ widestOf (runsBelow q n x)
-  pub fresh : x < n → q x ≡ true → begins q x ≡ true
+  pub fresh : x < n → q x ≡ true → runBegins q x ≡ true
 
 pub setting-out : (q : ℕ → Bool) (n : ℕ) → Walked q n 0 0 0 0
-unfolding countOf runsBelow widestOf begins length
+unfolding count runsBelow widestOf runBegins length
 setting-out q n = record { low = omega arith; counted = refl; number = refl; wide = refl; fresh = λ l e. e }
 
 module _ {q : ℕ → Bool} {n x f k w : ℕ} (h : Walked q n x f k w) where
@@ -32,7 +33,7 @@ module _ {q : ℕ → Bool} {n x f k w : ℕ} (h : Walked q n x f k w) where
   arrived l = let e : x ≡ n = omega (arith, h .low) in rw (h .counted, h .number, h .wide, e)
 
   pub few : (f ≤ x) × (k ≤ x)
-  few = (omega (arith, h .counted, count-low q x), omega (arith, h .number, runs-number q n x, count-low (begins q) x))
+  few = (omega (arith, h .counted, count-low q x), omega (arith, h .number, runs-number q n x, count-low (runBegins q) x))
 
   module _ (y : ℕ) (l : x < y) (m : y ≤ n) where
     -- no slot from x to before y has the test

@@ -9,36 +9,37 @@ use lib.ListN.{length}
 use borrow.Author.Tests.{not-true, not-false}
 use Rattle.ground.proofs.Bools.{and-parts, lt-or-ge, true-or-false}
 use Rattle.ground.proofs.Minimum.{least-at, least-is}
-use Rattle.report.specs.Runs.{countOf, begins, width, runsBelow}
-use Rattle.report.proofs.Counts.{count-in, count-out}
+use Rattle.ground.specs.Count.{count}
+use Rattle.report.specs.Runs.{runBegins, width, runsBelow}
+use Rattle.ground.proofs.Counting.{count-in, count-out}
 
 and-false : (x : Bool) → (x && false) ≡ false
 and-false true = refl
 and-false false = refl
 
 module _ (q : ℕ → Bool) where
-  pub begins-here : (a : ℕ) → q a ≡ true → ((s : ℕ) → suc s ≡ a → q s ≡ false) → begins q a ≡ true
-  unfolding begins
+  pub begins-here : (a : ℕ) → q a ≡ true → ((s : ℕ) → suc s ≡ a → q s ≡ false) → runBegins q a ≡ true
+  unfolding runBegins
   begins-here zero e f = e
   begins-here (suc a) e f = rw (e, f a refl)
 
-  pub begins-not : (a : ℕ) → q a ≡ false → begins q a ≡ false
-  unfolding begins
+  pub begins-not : (a : ℕ) → q a ≡ false → runBegins q a ≡ false
+  unfolding runBegins
   begins-not zero e = e
   begins-not (suc a) e = rw e
 
-  pub goes-on : (s a : ℕ) → suc s ≡ a → q s ≡ true → begins q a ≡ false
-  unfolding begins
+  pub goes-on : (s a : ℕ) → suc s ≡ a → q s ≡ true → runBegins q a ≡ false
+  unfolding runBegins
   goes-on s zero i e = absurd (omega arith)
   goes-on s (suc a) i e = let j : s ≡ a = omega arith in rw (← j, e, and-false)
 
-  pub begins-has : (a : ℕ) → begins q a ≡ true → q a ≡ true
-  unfolding begins
+  pub begins-has : (a : ℕ) → runBegins q a ≡ true → q a ≡ true
+  unfolding runBegins
   begins-has zero e = e
   begins-has (suc a) e = and-parts (q (suc a)) (not (q a)) e .0
 
-  pub begins-after : (s a : ℕ) → suc s ≡ a → begins q a ≡ true → q s ≡ false
-  unfolding begins
+  pub begins-after : (s a : ℕ) → suc s ≡ a → runBegins q a ≡ true → q s ≡ false
+  unfolding runBegins
   begins-after s zero i e = absurd (omega arith)
   begins-after s (suc a) i e = let j : s ≡ a = omega arith in rw j (not-true _ (and-parts (q (suc a)) (not (q a)) e .1))
 
@@ -76,18 +77,18 @@ module _ (q : ℕ → Bool) where
         width-at a 0 (omega arith) (λ s x y. absurd (omega arith)) (λ b. rw i (f (omega arith)))
 
     -- one more number: a run begins there, or not
-    pub runs-in : (m : ℕ) → begins q m ≡ true → runsBelow q n (suc m) ≡ record { first = m; wide = width q n m } ∷ runsBelow q n m
+    pub runs-in : (m : ℕ) → runBegins q m ≡ true → runsBelow q n (suc m) ≡ record { first = m; wide = width q n m } ∷ runsBelow q n m
     unfolding runsBelow
     runs-in m e = rw e
 
-    pub runs-out : (m : ℕ) → begins q m ≡ false → runsBelow q n (suc m) ≡ runsBelow q n m
+    pub runs-out : (m : ℕ) → runBegins q m ≡ false → runsBelow q n (suc m) ≡ runsBelow q n m
     unfolding runsBelow
     runs-out m e = rw e
 
     -- as many runs as there are numbers where one begins
-    pub runs-number : (m : ℕ) → length (runsBelow q n m) ≡ countOf (begins q) m
-    unfolding runsBelow countOf length
+    pub runs-number : (m : ℕ) → length (runsBelow q n m) ≡ count (runBegins q) m
+    unfolding runsBelow count length
     runs-number zero = refl
     runs-number (suc m) =
-        ⊎-elim (λ e. ap length (runs-in m e) ∙ ap suc (runs-number m) ∙ sym (count-in (begins q) m e))
-        (λ e. ap length (runs-out m e) ∙ runs-number m ∙ sym (count-out (begins q) m e)) (true-or-false (begins q m))
+        ⊎-elim (λ e. ap length (runs-in m e) ∙ ap suc (runs-number m) ∙ sym (count-in (runBegins q) m e))
+        (λ e. ap length (runs-out m e) ∙ runs-number m ∙ sym (count-out (runBegins q) m e)) (true-or-false (runBegins q m))

@@ -8,19 +8,22 @@ use Rattle.ground.specs.Least.{least, oneMore}
 use Rattle.link.specs.Range.{GoodPlan}
 use Rattle.ground.specs.Judging.{first, outside, andThen}
 use Rattle.link.specs.Refusal.{linkFaults, rowFaults, offsetFaults}
-use Rattle.link.specs.Rows.{Crossing, one, second, start, hits, either, free, firstHit, metAt, Clear}
+use Rattle.link.specs.Rows.{Crossing, one, second, start, hits, either, free, Clear}
 use Rattle.link.specs.Slots.{uses, meets}
 use Rattle.link.specs.declared.Link.{Link}
-use Rattle.checker.specs.Answer as checker
-use Rattle.checker.specs.declared.Checked.the-variants as checked
-use Rattle.checker.proofs.Worked.{collides}
-use Rattle.report.specs.Runs.{countOf, begins, width, Run, Longest, runsBelow, runs, widestOf, totalOf}
+use Rattle.checker.specs.Answer.{blocked}
+use Rattle.checker.specs.Judging.{clearFaults}
+use Rattle.checker.specs.declared.Checked.the-variants.{Collision}
+use Rattle.checker.proofs.Promises.{collision-is-first}
+use Rattle.checker.proofs.Worked.{collides, not-clear}
+use Rattle.ground.specs.Count.{count}
+use Rattle.report.specs.Runs.{runBegins, width, Run, Longest, runsBelow, runs, widestOf, totalOf}
 use Rattle.report.specs.Free.{usedOf, freeOf, isFree, stretchOf}
 use Rattle.report.specs.Answer.{noStretch, said, told, answer}
 use Rattle.report.specs.declared.Stretch.{Stretch}
 use Rattle.report.specs.declared.Reported.{Reported}
 use Rattle.report.specs.declared.Reported.the-variants.{Stretches, Refused}
-use Rattle.report.proofs.Promises.{of, reports-exactly, not-clear-refused, summed, left-over, none-is-wider, one-is-as-wide, full}
+use Rattle.report.proofs.Promises.{of, no-second, reports-exactly, not-clear-refused, summed, left-over, stretches-counted, none-is-wider, one-is-as-wide, full}
 
 abbrev link : ℕ → ℕ → Link
 link p t = record { period = p; size = t }
@@ -42,9 +45,9 @@ pub record Table : Type 0 where
   pub not-clear : said (Refused 18 2) ≡ answer (link 10 2) (0 ∷ 3 ∷ 7 ∷ []) (0 ∷ 2 ∷ 4 ∷ [])
 
 pub table : Table
-unfolding said answer told stretchOf freeOf usedOf widestOf runsBelow width begins countOf
-    checker.answer checker.named checker.blocked checker.metBy free hits either start second uses meets least oneMore
-    first outside andThen linkFaults rowFaults offsetFaults firstHit metAt
+unfolding said answer told stretchOf freeOf usedOf widestOf runsBelow width runBegins count
+    clearFaults blocked free hits either start second uses meets least oneMore
+    first outside andThen linkFaults rowFaults offsetFaults
 table = record { both-ends = refl; filled = refl; over-the-end = refl; end-meets-start = refl; not-clear = refl }
 
 -- the promises at the first of them
@@ -79,5 +82,18 @@ pub none-left : (a b : Stretch) → said (Stretches a b) ≡ answer (link 5 5) (
 unfolding length
 none-left a b e c = full (link 5 5) (3 ∷ []) (2 ∷ []) (Stretches a b) e a b refl refl c
 
-pub eighteen : (r : Reported) → said r ≡ answer (link 10 2) (0 ∷ 3 ∷ 7 ∷ []) (0 ∷ 2 ∷ 4 ∷ []) → r ≡ Refused 18 2
-eighteen r e = not-clear-refused (link 10 2) (0 ∷ 3 ∷ 7 ∷ []) (0 ∷ 2 ∷ 4 ∷ []) r e (checked.Collision 0 2 2) collides 0 2 2 refl
+-- "First table, offsets 0 2 4": not clear, so 18
+pub eighteen : (r : Reported) → said r ≡ answer (link 10 2) (0 ∷ 3 ∷ 7 ∷ []) (0 ∷ 2 ∷ 4 ∷ []) → (j : ℕ) × (r ≡ Refused 18 j)
+eighteen r e =
+    let w = not-clear-refused (link 10 2) (0 ∷ 3 ∷ 7 ∷ []) (0 ∷ 2 ∷ 4 ∷ []) r e in-range not-clear in
+    (w .1, w .4)
+  where
+    in-range : GoodPlan (link 10 2) (0 ∷ 3 ∷ 7 ∷ []) (0 ∷ 2 ∷ 4 ∷ [])
+    in-range = collision-is-first (link 10 2) (0 ∷ 3 ∷ 7 ∷ []) (0 ∷ 2 ∷ 4 ∷ []) (Collision 0 2 2) collides 0 2 2 refl .0
+
+-- runs that begin: two in each crossing of the first case
+pub two-begin : (c : Crossing) → of c free-3 free-3 .stretches ≡ count (runBegins (isFree 5 2 ds os c)) 5
+two-begin c = stretches-counted (link 5 2) ds os (Stretches free-3 free-3) (table .both-ends) _ _ refl c
+
+pub only-report : (r : Reported) → said r ≡ answer (link 5 2) ds os → r ≡ Stretches free-3 free-3
+only-report r e = no-second (link 5 2) ds os r (Stretches free-3 free-3) e (table .both-ends)

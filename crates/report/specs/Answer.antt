@@ -1,11 +1,11 @@
 -- What the stretch report answers.
 use mathlib.Core.List.{List}
 use Prim.Native.Nat.{ℕ}
-use Rattle.link.specs.Limits.{notClear}
+use Rattle.ground.specs.Judging.{first}
+use Rattle.ground.specs.Protocol.{unless}
 use Rattle.link.specs.Rows.{one, two}
 use Rattle.link.specs.declared.Link.{Link}
-use Rattle.checker.specs.Answer.{clear, collision, refusal}
-use Rattle.checker.specs.Answer as checker
+use Rattle.checker.specs.Judging.{clearFaults}
 use Rattle.report.specs.Free.{isFree, stretchOf}
 use Rattle.report.specs.declared.Stretch.{Stretch}
 use Rattle.report.specs.declared.Reported.{Reported}
@@ -40,15 +40,6 @@ said (Refused n p) = refusing n p
 unfoldable pub told : ℕ → ℕ → List ℕ → List ℕ → Said
 told p t ds os = telling (stretchOf (isFree p t ds os one) p) (stretchOf (isFree p t ds os two) p)
 
--- the checker's refusals are the report's; "A plan that isn't clear is refused with 18", "later row"
-abbrev pub onClear : checker.Verdict → ℕ → ℕ → ℕ → Said → Said
-onClear clear number place later s = s
-onClear collision number place later s = refusing notClear later
-onClear refusal number place later s = refusing number place
-
-abbrev pub unless : checker.Said → Said → Said
-unless c s = onClear (c .verdict) (c .number) (c .place) (c .later) s
-
--- 5, 6, 8, 7, 11, 17, 18, then the report
+-- 5, 6, 8, 7, 11, 17, "A plan that isn't clear is refused with 18", then the report
 unfoldable pub answer : Link → List ℕ → List ℕ → Said
-answer k ds os = unless (checker.answer k ds os) (told (k .period) (k .size) ds os)
+answer k ds os = unless refusing (first (clearFaults k ds os)) (told (k .period) (k .size) ds os)

@@ -6,7 +6,8 @@ use lib.ListN.{length}
 use Rattle.ground.specs.Least.{some}
 use Rattle.link.specs.Slots.{uses}
 use Rattle.link.specs.Rows.{Crossing, start}
-use Rattle.report.specs.Runs.{countOf, runs, widestOf}
+use Rattle.ground.specs.Count.{count}
+use Rattle.report.specs.Runs.{runs, widestOf}
 use Rattle.report.specs.declared.Stretch.{Stretch}
 
 -- one of the first n messages, of size t and with these starts, uses the slot s
@@ -23,4 +24,4 @@ isFree p t ds os c = freeOf p t (start p ds os c) (length ds)
 
 -- "the number of free slots, the number of free stretches, and the length of the widest", of p slots on a line: q says which are free
 unfoldable pub stretchOf : (ℕ → Bool) → ℕ → Stretch
-stretchOf q p = record { free = countOf q p; stretches = length (runs q p); widest = widestOf (runs q p) }
+stretchOf q p = record { free = count q p; stretches = length (runs q p); widest = widestOf (runs q p) }

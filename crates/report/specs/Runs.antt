@@ -5,15 +5,10 @@ use mathlib.Core.List.{List, [], _∷_}
 use Prim.Native.Nat.{ℕ, zero, suc, _+_, _-_, _≤_, _<_, max}
 use Rattle.ground.specs.Least.{least}
 
--- how many numbers below n have q: "counted slot by slot"
-unfoldable pub countOf : (ℕ → Bool) → ℕ → ℕ
-countOf q zero = zero
-countOf q (suc n) = cond (q n) (suc (countOf q n)) (countOf q n)
-
 -- a run begins at a: a has q, and the number before it, if there is one, has not
-unfoldable pub begins : (ℕ → Bool) → ℕ → Bool
-begins q zero = q zero
-begins q (suc a) = q (suc a) && not (q a)
+unfoldable pub runBegins : (ℕ → Bool) → ℕ → Bool
+runBegins q zero = q zero
+runBegins q (suc a) = q (suc a) && not (q a)
 
 -- how far q goes on from a: up to the least number that has it not, or to n
 unfoldable pub width : (ℕ → Bool) → ℕ → ℕ → ℕ
@@ -38,7 +33,7 @@ pub record Longest (q : ℕ → Bool) (n : ℕ) (r : Run) : Type 0 where
 -- the runs, one for each number below m where a run begins, the last one first
 unfoldable pub runsBelow : (ℕ → Bool) → ℕ → ℕ → List Run
 runsBelow q n zero = []
-runsBelow q n (suc m) = cond (begins q m) (record { first = m; wide = width q n m } ∷ runsBelow q n m) (runsBelow q n m)
+runsBelow q n (suc m) = cond (runBegins q m) (record { first = m; wide = width q n m } ∷ runsBelow q n m) (runsBelow q n m)
 
 abbrev pub runs : (ℕ → Bool) → ℕ → List Run
 runs q n = runsBelow q n n

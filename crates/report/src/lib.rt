@@ -1,8 +1,7 @@
 // The stretch report: the free slots of each crossing of a clear plan, and the stretches that they form.
-use checker::Checked;
+use ground::Judged;
 use link::Link;
 use link::limits::MAX_ROWS;
-use link::limits::NOT_CLEAR;
 ghost use mathlib.Core.Path.{_≡_};
 ghost use Prim.Native.Nat.{_≤_, _<_, max};
 ghost use lib.ListN.{length};
@@ -23,21 +22,13 @@ pub enum Reported {
     Refused { number: u32, place: usize },
 }
 
-// Judges a table and its offsets as the checker does, and reports the free slots of both crossings.
+// Judges a plan that is to be clear, and reports the free slots of both crossings.
 pub fn report(link: Link, delays: &[u32], offsets: &[u32]) -> Reported
     ensures { λ r. ⌜ said r ≡ answer link (now (delays .entry)) (now (offsets .entry)) ⌝ }
 {
-    match checker::check(link, delays, offsets) {
-        Checked::Refused { number, place } => Reported::Refused { number, place },
-        Checked::Collision {
-            earlier: _,
-            later,
-            crossing: _,
-        } => Reported::Refused {
-            number: NOT_CLEAR,
-            place: later,
-        },
-        Checked::Clear => both(link.period, link.size, delays, offsets),
+    match checker::judge_clear(link, delays, offsets) {
+        Judged::Fault { number, place } => Reported::Refused { number, place },
+        Judged::Fine => both(link.period, link.size, delays, offsets),
     }
 }
 

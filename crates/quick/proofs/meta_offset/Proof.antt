@@ -1,8 +1,9 @@
 -- A fault of the judging is the answer; else the planner goes by the multiples of the size.
 use mathlib.Core.Path.{sym, _∙_}
 use Rattle.link.proofs.Accepted.{good-room}
-use Rattle.quick.specs.Answer.{said}
-use Rattle.quick.proofs.Entries.{multiples, refused, went}
+use Rattle.quick.specs.Answer.{said, quick}
+use Rattle.quick.proofs.Entries.{multiples}
+use Rattle.ground.proofs.Answers.{refused, goes-on}
 use borrow.Author.Needs.{needs}
 use Rattle.quick.proofs.meta_offset.Statement.{statement}
 use Rattle.quick.proofs.meta_offset.Tie as tie
@@ -33,18 +34,19 @@ plan-requires c κs =
     rw (c .before .before .span .ensures) ((g .0 .rows-high, g .1), multiples _ _ (g .0))
 
 returns : tie.Need-returns
-unfolding said
-returns c = refused _ _ _ _ _ _ _ (sym (c .before .before .before .planner .ensures) ∙ c .before .number .given .1)
+unfolding said quick
+returns c = refused _ _ (sym (c .before .before .before .planner .ensures) ∙ c .before .number .given .1)
 
 same-length : tie.Need-same-length
 same-length c = search needs
 
 returns-2 : tie.Need-returns-2
+unfolding quick
 returns-2 c =
     let at-planner = c .before .before .before .before .before .before .before .before .planner in
     let at-enum-told = c .before .before .before .before .before .before .enum-told in
     let fine = sym (at-planner .ensures) ∙ at-enum-told .given .1 in
-    went _ _ _ _ _ _ fine (rw (c .before .before .before .before .before .span .ensures) at (c .before .before .plan .ensures))
+    goes-on _ fine (rw (c .before .before .before .before .before .span .ensures) at (c .before .before .plan .ensures))
 
 pub meta-offset-spec : {M : Type 1} → statement M
 meta-offset-spec =

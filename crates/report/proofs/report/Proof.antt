@@ -1,42 +1,34 @@
--- One way for each of the checker's answers.
-use Rattle.report.proofs.Judging.{refusal-passes, collision-refused, clear-told, clear-range}
+-- A fault of the judging is the answer; else the plan is clear, and both crossings are reported.
+use mathlib.Core.Path.{sym, _∙_}
+use Rattle.ground.proofs.Answers.{refused, goes-on}
+use Rattle.link.proofs.Accepted.{in-range}
+use Rattle.checker.proofs.Judging.{fine-clear}
+use Rattle.report.specs.Answer.{said, answer}
 use borrow.Author.Needs.{needs}
 use Rattle.report.proofs.report.Statement.{statement}
 use Rattle.report.proofs.report.Tie as tie
 
-check-requires : tie.Need-check-requires
-check-requires c κs = search needs
+judge-clear-requires : tie.Need-judge-clear-requires
+judge-clear-requires c κs = search needs
 
 enum-known-number : tie.Need-enum-known-number
 enum-known-number c = search needs
-
-enum-known-later : tie.Need-enum-known-later
-enum-known-later c = search needs
 
 enum-told : tie.Need-enum-told
 enum-told c = search needs
 
 both-requires : tie.Need-both-requires
-both-requires c κs = clear-range _ _ _ _ (c .before .before .check .ensures) (c .enum-told .given .1)
+both-requires c κs =
+    let good = fine-clear _ _ _ (sym (c .before .before .judge-clear .ensures) ∙ c .enum-told .given .1) .0 in
+    (good .table .span-low, in-range _ _ _ good)
 
 returns : tie.Need-returns
-returns c = refusal-passes _ _ _ _ (c .before .before .before .check .ensures) _ _ (c .before .number .given .1)
+unfolding said answer
+returns c = refused _ _ (sym (c .before .before .before .judge-clear .ensures) ∙ c .before .number .given .1)
 
 returns-2 : tie.Need-returns-2
-returns-2 c = collision-refused _ _ _ _ (c .before .before .before .check .ensures) _ _ _ (c .before .later .given .1)
-
-returns-3 : tie.Need-returns-3
-returns-3 c = clear-told _ _ _ _ (c .before .before .before .check .ensures) _ (c .before .enum-told .given .1) (c .both .ensures)
+unfolding answer
+returns-2 c = goes-on _ (sym (c .before .before .before .judge-clear .ensures) ∙ c .before .enum-told .given .1) (c .both .ensures)
 
 pub report-spec : {M : Type 1} → statement M
-report-spec =
-    tie.close
-    (tie.spec
-    check-requires
-    enum-known-number
-    enum-known-later
-    enum-told
-    both-requires
-    returns
-    returns-2
-    returns-3)
+report-spec = tie.close (tie.spec judge-clear-requires enum-known-number enum-told both-requires returns returns-2)
