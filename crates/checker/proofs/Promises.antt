@@ -61,7 +61,10 @@ module _ (k : Link) (ds os : List ℕ) (r : Checked) (e : said r ≡ answer k ds
           (g, clear-rows (k .period) (spanOf k) ds os (g .table .period-low) (λ j l. not-false _ (w .1 j l)))
 
       back : GoodPlan k ds os × Clear (k .period) (spanOf k) ds os → r ≡ Clearly
-      back w = no-second k ds os r Clearly e (rw (← fine-plan k ds os (w .0)) (named-clear (k .period) (spanOf k) ds os (λ j l. ap not (rows-clear (k .period) (spanOf k) ds os (w .1) j l))))
+      back w =
+          no-second k ds os r Clearly e
+          (rw (← fine-plan k ds os (w .0))
+          (named-clear (k .period) (spanOf k) ds os (λ j l. ap not (rows-clear (k .period) (spanOf k) ds os (w .1) j l))))
 
   -- "The collision named is the one with the least later row, then the least earlier row, then crossing 1 before 2."
   pub collision-is-first : (i j n : ℕ) → r ≡ Collision i j n → GoodPlan k ds os × FirstCollision (k .period) (spanOf k) ds os i j n

@@ -47,5 +47,6 @@ nothing-yet old at =
 -- what was put lies within the buffer
 pub inside : (old : List ℕ) (at : ℕ) (w : List ℕ) (r : ℕ) (new : List ℕ) → at ≤ length old → Adds old at w r new → r ≤ length new
 inside old at w r new h a =
-    rw (a .written, length-append (take at old) (w ++ drop (at + length w) old), length-append w (drop (at + length w) old), length-take-le at old h)
+    let behind = w ++ drop (at + length w) old in
+    rw (a .written, length-append (take at old) behind, length-append w (drop (at + length w) old), length-take-le at old h)
     (omega (arith, a .end))

@@ -43,8 +43,10 @@ module _ (k : Link) (ds : List ℕ) where
   unfolding linkFaults rowFaults
   fine-table g =
       front-pass _ _ Fine
-      (sym (pass _ _ badPeriod 0 (inside _ _ _ (g .period-low) (g .period-high)) (pass _ _ badSize 0 (inside _ _ _ (g .span-low) (g .span-high)) fine)))
-      (pass _ _ badRows 0 (inside _ _ _ (g .rows-low) (g .rows-high)) (pass _ _ badDelay _ (some-none _ _ (λ i l. le-ltb _ _ (g .delays i l))) fine))
+      (sym (pass _ _ badPeriod 0 (inside _ _ _ (g .period-low) (g .period-high))
+      (pass _ _ badSize 0 (inside _ _ _ (g .span-low) (g .span-high)) fine)))
+      (pass _ _ badRows 0 (inside _ _ _ (g .rows-low) (g .rows-high))
+      (pass _ _ badDelay _ (some-none _ _ (λ i l. le-ltb _ _ (g .delays i l))) fine))
 
   -- a planner's lent list with room for so many
   pub good-room : (room : ℕ) → first (plannerFaults k ds room) ≡ Fine → GoodTable k ds × (length ds ≤ room)
@@ -79,7 +81,8 @@ module _ (k : Link) (ds os : List ℕ) where
   unfolding offsetFaults
   fine-plan g =
       front-pass _ _ Fine (sym (fine-table k ds (g .table)))
-      (pass _ _ badLength 0 (ap not (eq-eqb _ _ (g .as-many))) (pass _ _ badOffset _ (some-none _ _ (λ i l. lt-leb _ _ (g .offsets i l))) fine))
+      (pass _ _ badLength 0 (ap not (eq-eqb _ _ (g .as-many)))
+      (pass _ _ badOffset _ (some-none _ _ (λ i l. lt-leb _ _ (g .offsets i l))) fine))
 
   pub in-range : GoodPlan k ds os → InRange (k .period) (spanOf k) ds os
   in-range g =

@@ -121,14 +121,18 @@ module _ (p l a b : ℕ) (ha : a < p) (hb : b < p) (hl : l ≤ p) where
           let v = uses-has s b hb (t .1) in
           apart-not s (u .0) (v .0) w (u .1) (v .1) (u .2) (v .2))
 
+      at-start : (x : ℕ) {m : ℕ} → x < p → m < l → uses p l x x ≡ true
+      at-start x h k = uses-at x x 0 h (omega arith) (inl (omega arith))
+
       meet : (Apart p l a b → ⊥) → meets p l a b ≡ true
       meet n =
           ⊎-elim
-          (λ near. ⊎-elim (λ o. both b hb (uses-at b a (b - a) ha (omega arith) (inl (omega arith))) (uses-at b b 0 hb (omega arith) (inl (omega arith))))
-          (λ o. both a ha (uses-at a a 0 ha (omega arith) (inl (omega arith))) (uses-at a b (a - b) hb (omega arith) (inl (omega arith)))) (lt-or-ge a b))
+          (λ near. ⊎-elim (λ o. both b hb (uses-at b a (b - a) ha (omega arith) (inl (omega arith))) (at-start b hb near))
+          (λ o. both a ha (at-start a ha near) (uses-at a b (a - b) hb (omega arith) (inl (omega arith)))) (lt-or-ge a b))
           (λ far. let g : p < gap a b + l = ⊎-elim (λ o. o) (λ o. absurd (n (far, o))) (lt-or-ge p (gap a b + l)) in
-          ⊎-elim (λ o. both a ha (uses-at a a 0 ha (omega arith) (inl (omega arith))) (uses-at a b (p - (b - a)) hb (omega arith) (inr (omega arith))))
-          (λ o. both b hb (uses-at b a (p - (a - b)) ha (omega arith) (inr (omega arith))) (uses-at b b 0 hb (omega arith) (inl (omega arith)))) (lt-or-ge a b))
+          let some : 0 < l = omega arith in
+          ⊎-elim (λ o. both a ha (at-start a ha some) (uses-at a b (p - (b - a)) hb (omega arith) (inr (omega arith))))
+          (λ o. both b hb (uses-at b a (p - (a - b)) ha (omega arith) (inr (omega arith))) (at-start b hb some)) (lt-or-ge a b))
           (lt-or-ge (gap a b) l)
 
       go : (x : Bool) → apartb p l a b ≡ x → some (λ s. uses p l a s && uses p l b s) p ≡ not x

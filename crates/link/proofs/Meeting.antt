@@ -95,7 +95,10 @@ pub nobody-free : (p l : ℕ) (ds os : List ℕ) (n d a : ℕ) → isNobody (met
 unfolding metAt free firstHit
 nobody-free p l ds os n d a = go (some (either (hits p l ds os d a)) n)
   where
-    go : (b : Bool) → isNobody (cond b (Row (least (either (hits p l ds os d a)) n) (cond (hits p l ds os d a one (least (either (hits p l ds os d a)) n)) 1 2)) Nobody) ≡ not b
+    at : ℕ
+    at = least (either (hits p l ds os d a)) n
+
+    go : (b : Bool) → isNobody (cond b (Row at (cond (hits p l ds os d a one at) 1 2)) Nobody) ≡ not b
     go true = refl
     go false = refl
 

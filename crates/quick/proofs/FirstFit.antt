@@ -44,7 +44,8 @@ module _ (k : Link) (ds old : List ℕ) (r : Planned) (new : List ℕ) (e : give
 
   -- 13 at row j: the rows before have their least free offsets, and no offset is free for row j
   pub first-fit-thirteen : (j : ℕ) → r ≡ Refused noOffset j
-      → (os : List ℕ) × ((i : ℕ) → i < j → Right os i) × ((a : ℕ) → a < k .period → free (k .period) (spanOf k) ds os j (getD ds j 0) a ≡ false)
+      → (os : List ℕ) × ((i : ℕ) → i < j → Right os i)
+      × ((a : ℕ) → a < k .period → free (k .period) (spanOf k) ds os j (getD ds j 0) a ≡ false)
   unfolding freeAt
   first-fit-thirteen j c =
       let w = thirteen-exactly k ds old 1 (k .period) r new e j .0 c .stuck in

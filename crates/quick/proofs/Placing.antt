@@ -83,7 +83,9 @@ module _
           record {
             xs-length = length-set xs j (c * step) ∙ s .xs-length;
             ys-length = length-set ys j b ∙ s .ys-length;
-            done = rw (add-one, s .done, take-suc-set xs j (c * step) room, lt-ltb _ count (subst (λ (x : ℕ). x < count) least-free h), ← least-free);
+            done =
+                let low = subst (λ (x : ℕ). x < count) least-free h in
+                rw (add-one, s .done, take-suc-set xs j (c * step) room, lt-ltb _ count low, ← least-free);
             low = below-more _ j (λ i q. rw (other xs (c * step) i q) (s .low i q))
                 (rw (getD-set-same xs j (c * step) 0 room) (at-low c h));
             seconds =

@@ -20,7 +20,7 @@ use Rattle.link.specs.Rows.{spanOf, free, Clear}
 use Rattle.link.specs.declared.Link.{Link}
 use Rattle.link.proofs.Accepted.{good-room, fine-room, planner-low}
 use Rattle.link.proofs.Clearness.{clear-rows}
-use Rattle.quick.specs.Plan.{freeAt, Progress, rows, stuck, placed}
+use Rattle.quick.specs.Plan.{freeAt, Progress, rows, stuck, allPlaced}
 use Rattle.quick.specs.Right.{Placed, GivenPlan, NoOffset}
 use Rattle.quick.specs.Answer.{Verdict, plan, refusal, Said, planning, refusing, said, outcome, quick}
 use Rattle.quick.specs.declared.Planned.{Planned}
@@ -57,7 +57,8 @@ right-clear p l ds step count os h w = clear-rows p l ds os h (λ j q. let f = w
 
 module _ (k : Link) (ds old : List ℕ) (step count : ℕ) where
   -- what is left to say of a table that is let through
-  answers : first (plannerFaults k ds (length old)) ≡ Fine → {x : Answer} {o : Progress} → placed (k .period) (spanOf k) ds step count (length ds) ≡ o
+  answers : first (plannerFaults k ds (length old)) ≡ Fine → {x : Answer} {o : Progress}
+      → allPlaced (k .period) (spanOf k) ds step count ≡ o
       → x ≡ outcome o old → x ≡ quick k ds old step count
   unfolding quick
   answers e f g = goes-on (keeping refusing old) e (rw f g)
@@ -107,7 +108,7 @@ module _ (k : Link) (ds old : List ℕ) (step count : ℕ) where
             rw same (record { table = good .0; room = good .1; row = h; stuck = s })
 
         there : Told (keeping refusing old) (first (plannerFaults k ds (length old)))
-            (outcome (placed (k .period) (spanOf k) ds step count (length ds)) old) (gives (refusing noOffset j) new)
+            (outcome (allPlaced (k .period) (spanOf k) ds step count) old) (gives (refusing noOffset j) new)
             → NoOffset k ds old step count j
         there (stopped n p f g) =
             let m : noOffset ≡ n = ap (λ (x : Answer). x .says .number) g in
@@ -135,6 +136,6 @@ module _ (k : Link) (ds old : List ℕ) (step count : ℕ) where
         row (rows os) g = never (cc (ap verdict g))
 
         go : Told (keeping refusing old) (first (plannerFaults k ds (length old)))
-            (outcome (placed (k .period) (spanOf k) ds step count (length ds)) old) (gives (refusing n q) new) → new ≡ old
+            (outcome (allPlaced (k .period) (spanOf k) ds step count) old) (gives (refusing n q) new) → new ≡ old
         go (stopped m p f g) = ap (λ (x : Answer). x .leaves) g
-        go (through f g) = row (placed (k .period) (spanOf k) ds step count (length ds)) g
+        go (through f g) = row (allPlaced (k .period) (spanOf k) ds step count) g

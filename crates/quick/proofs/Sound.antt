@@ -80,7 +80,8 @@ module _ (p l : ℕ) (ds : List ℕ) (step count : ℕ) where
   unfolding placed place
   placed-is os zero h each = refl
   placed-is os (suc n) h each =
-      rw (placed-is os n (omega arith) (λ j q. each j (omega arith)), some-at q count c (f .candidate) (f .is-free), at, take-suc os n 0 h, each n (omega arith) .1)
+      let before = placed-is os n (omega arith) (λ j q. each j (omega arith)) in
+      rw (before, some-at q count c (f .candidate) (f .is-free), at, take-suc os n 0 h, each n (omega arith) .1)
     where
       q : ℕ → Bool
       q = freeAt p l ds (take n os) n step

@@ -9,7 +9,7 @@ use Rattle.link.specs.Limits.{noOffset}
 use Rattle.link.specs.Refusal.{plannerFaults}
 use Rattle.link.specs.Rows.{spanOf}
 use Rattle.link.specs.declared.Link.{Link}
-use Rattle.quick.specs.Plan.{Progress, rows, stuck, placed}
+use Rattle.quick.specs.Plan.{Progress, rows, stuck, allPlaced}
 use Rattle.quick.specs.declared.Planned.{Planned}
 use Rattle.quick.specs.declared.Planned.the-variants.{Plan, Refused}
 
@@ -41,7 +41,7 @@ outcome (stuck j) old = keeping refusing old noOffset j
 unfoldable pub quick : Link → List ℕ → List ℕ → ℕ → ℕ → Outcome Said (List ℕ)
 quick k ds old step count =
     unless (keeping refusing old) (first (plannerFaults k ds (length old)))
-    (outcome (placed (k .period) (spanOf k) ds step count (length ds)) old)
+    (outcome (allPlaced (k .period) (spanOf k) ds step count) old)
 
 -- "First Fit gives each row the least free offset."
 abbrev pub firstFit : Link → List ℕ → List ℕ → Outcome Said (List ℕ)

@@ -3,7 +3,7 @@
 use mathlib.Core.Bool.{Bool, cond}
 use mathlib.Core.List.{List, [], _∷_, _++_}
 use Prim.Native.Nat.{ℕ, zero, suc, _*_}
-use lib.ListN.{getD}
+use lib.ListN.{length, getD}
 use Rattle.ground.specs.Least.{least, some}
 use Rattle.link.specs.Rows.{free}
 
@@ -26,3 +26,7 @@ place p l ds step count j (stuck i) = stuck i
 unfoldable pub placed : ℕ → ℕ → List ℕ → ℕ → ℕ → ℕ → Progress
 placed p l ds step count zero = rows []
 placed p l ds step count (suc j) = place p l ds step count j (placed p l ds step count j)
+
+-- all rows
+abbrev pub allPlaced : ℕ → ℕ → List ℕ → ℕ → ℕ → Progress
+allPlaced p l ds step count = placed p l ds step count (length ds)

@@ -10,7 +10,7 @@ ghost use lib.ListN.{length};
 ghost use Rattle.link.specs.Limits.{maxRows};
 ghost use Rattle.ground.specs.Least.{least};
 ghost use Rattle.ground.specs.Protocol.{gives};
-ghost use Rattle.quick.specs.Plan.{placed};
+ghost use Rattle.quick.specs.Plan.{allPlaced};
 ghost use Rattle.quick.specs.Answer.{said, outcome, firstFit, metaOffset};
 ghost use Rattle.quick.specs.Ways.{Ways, openTo};
 
@@ -60,7 +60,8 @@ fn plan(
 ) -> Planned
     requires { ⌜ (length (now delays) ≤ maxRows) × (length (now delays) ≤ length (now offsets)) ⌝ }
     requires { ⌜ Ways period span step count ⌝ }
-    ensures { λ r. ⌜ gives (said r) (now (offsets .exit)) ≡ outcome (placed period span (now (delays .entry)) step count (length (now (delays .entry)))) (now (offsets .entry)) ⌝ }
+    ensures { λ r. ⌜ gives (said r) (now (offsets .exit))
+        ≡ outcome (allPlaced period span (now (delays .entry)) step count) (now (offsets .entry)) ⌝ }
 {
     let mut firsts = [0u32; MAX_ROWS];
     let mut seconds = [0u32; MAX_ROWS];

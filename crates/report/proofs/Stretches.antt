@@ -9,7 +9,8 @@ use native.Mathlib.Omega.{arith}
 use lib.ListN.{length}
 use Rattle.ground.proofs.Bools.{clash, lt-or-ge, true-or-false}
 use Rattle.report.specs.Runs.{runBegins, width, Run, Within, Longest, runsBelow, runs, widestOf}
-use Rattle.report.proofs.Widths.{begins-here, begins-has, begins-after, width-fits, width-each, width-end, width-at, width-more, runs-in, runs-out}
+use Rattle.report.proofs.Widths.{begins-here, begins-has, begins-after, runs-in, runs-out}
+use Rattle.report.proofs.Widths.{width-fits, width-each, width-end, width-at, width-more}
 
 module _ (q : ℕ → Bool) (n : ℕ) where
   -- the run that begins at a

@@ -23,7 +23,8 @@ use Rattle.report.specs.Answer.{noStretch, said, told, answer}
 use Rattle.report.specs.declared.Stretch.{Stretch}
 use Rattle.report.specs.declared.Reported.{Reported}
 use Rattle.report.specs.declared.Reported.the-variants.{Stretches, Refused}
-use Rattle.report.proofs.Promises.{of, no-second, reports-exactly, not-clear-refused, summed, left-over, stretches-counted, none-is-wider, one-is-as-wide, full}
+use Rattle.report.proofs.Promises.{of, no-second, reports-exactly, not-clear-refused}
+use Rattle.report.proofs.Promises.{summed, left-over, stretches-counted, none-is-wider, one-is-as-wide, full}
 
 abbrev link : ℕ → ℕ → Link
 link p t = record { period = p; size = t }

@@ -58,7 +58,8 @@ returns c =
 mul-a : tie.Need-mul-a Inv-loop μ-loop
 mul-a c =
     let u = c .before .before .before .before .before .before .before .before .before in
-    omega (arith, next-low (c .before .first-free .result) (u .args .count) (u .args .step) (c .if1 .left), u .pre .1 .low, u .pre .1 .period)
+    let low = next-low (c .before .first-free .result) (u .args .count) (u .args .step) (c .if1 .left) in
+    omega (arith, low, u .pre .1 .low, u .pre .1 .period)
 
 second-start-requires : tie.Need-second-start-requires Inv-loop μ-loop
 second-start-requires c κs = c .before .before .before .before .before .before .before .before .before .pre .1 .some-period
