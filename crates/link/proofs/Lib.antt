@@ -4,3 +4,4 @@ pub mod Meeting
 pub mod Clearness
 pub mod Accepted
 pub mod Promises
+pub mod Worked
