@@ -15,7 +15,8 @@ static const uint32_t delays[ROWS] = {0, 3, 7};
 /* Says that a step went wrong. */
 static int failed(const char *step, uint64_t number, uint64_t place)
 {
-    printf("%s: not as it should be, refusal %" PRIu64 " at %" PRIu64 "\n", step, number, place);
+    printf("%s: not as it should be; refusal %" PRIu64 " at %" PRIu64 ": %s\n", step, number, place,
+           seamwhisk_refusal(number));
     return 1;
 }
 
@@ -52,7 +53,7 @@ int main(void)
 
     seamwhisk_checked checked;
     seamwhisk_check(PERIOD, SIZE, delays_back, ROWS, offsets_back, ROWS, &checked);
-    if (checked.number != SEAMWHISK_NOT_REFUSED || checked.crossing != 0)
+    if (!seamwhisk_is_clear(&checked))
         return failed("check", checked.number, checked.place);
     printf("check: clear\n");
 

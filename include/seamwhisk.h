@@ -30,12 +30,15 @@
 extern "C" {
 #endif
 
+#define SEAMWHISK_VERSION "0.1.0"
+#define SEAMWHISK_VERSION_NUMBER 100 /* 10000 * major + 100 * minor + patch */
+
 #define SEAMWHISK_MAX_PERIOD 1000000 /* period: 1 to this; size: 1 to the period */
 #define SEAMWHISK_MAX_DELAY 16777215 /* delay: 0 to this, also above the period */
 #define SEAMWHISK_MAX_ROWS 64        /* rows: 1 to this */
 #define SEAMWHISK_MAX_EXACT_ROWS 8   /* rows of the exact planner: 1 to this */
 #define SEAMWHISK_MAX_TEXT 1024      /* bytes of a text table */
-#define SEAMWHISK_MAX_FILE 459       /* no plan file is longer */
+#define SEAMWHISK_MAX_FILE 458       /* bytes of a plan file: no clear plan has a longer one */
 
 /* The refusal numbers. In brackets: what answer->place is. "Byte" is a place in the text or file
  * that was read, counted from 0; calls on values have 0 there. */
@@ -63,6 +66,33 @@ enum seamwhisk_refusal {
                                     collision that the checker names] */
 };
 
+/* What a refusal number means, in one line. */
+static inline const char *seamwhisk_refusal(uint64_t number)
+{
+    switch (number) {
+    case SEAMWHISK_NOT_REFUSED: return "not refused";
+    case SEAMWHISK_TEXT_LENGTH: return "the text has more than 1,024 bytes";
+    case SEAMWHISK_LINE_ONE: return "line one of the text is not `pma 1`";
+    case SEAMWHISK_LINE_CUT: return "the text ends before a line does";
+    case SEAMWHISK_LINE_FORM: return "a line of the text is not of its form";
+    case SEAMWHISK_PERIOD: return "the period is not 1 to 1,000,000";
+    case SEAMWHISK_SIZE: return "the message size is not 1 to the period";
+    case SEAMWHISK_DELAY: return "a delay is above 16,777,215";
+    case SEAMWHISK_ROWS: return "there are no rows, or more than 64";
+    case SEAMWHISK_END_COUNT: return "the count of the line `end` is not that of the rows";
+    case SEAMWHISK_BYTES_AFTER: return "bytes follow the line `end`";
+    case SEAMWHISK_BUFFER: return "a buffer is too short, or there are not as many offsets as rows";
+    case SEAMWHISK_EXACT_ROWS: return "the exact planner takes at most 8 rows";
+    case SEAMWHISK_NO_OFFSET: return "this planner has no offset for a row; another may have a plan";
+    case SEAMWHISK_NO_BUILD: return "no choice of offsets is clear";
+    case SEAMWHISK_BUDGET_SPENT: return "the test budget is spent; nothing is known of the table";
+    case SEAMWHISK_FILE_FORM: return "the bytes are not a plan file";
+    case SEAMWHISK_OFFSET: return "an offset is not below the period";
+    case SEAMWHISK_NOT_CLEAR: return "two rows of the plan meet";
+    default: return "no refusal number";
+    }
+}
+
 /* A row with its offset. */
 typedef struct seamwhisk_record {
     uint32_t delay;
@@ -77,6 +107,13 @@ typedef struct seamwhisk_checked {
     uint64_t later;
     uint64_t crossing; /* 1 or 2, where they meet; 0: clear, or refused */
 } seamwhisk_checked;
+
+/* Whether the checker says that the plan is clear. Ask this, not `number == 0`: a collision is an
+ * answer, not a refusal, so its number is 0 too. */
+static inline int seamwhisk_is_clear(const seamwhisk_checked *answer)
+{
+    return answer->number == SEAMWHISK_NOT_REFUSED && answer->crossing == 0;
+}
 
 /* The answer of a quick planner. */
 typedef struct seamwhisk_planned {
@@ -138,7 +175,10 @@ void seamwhisk_check_records(uint32_t period, uint32_t size, const seamwhisk_rec
  * meets no earlier row in either crossing.
  * Judges 5, 6, 8, 7 (least row), 11 if room is below rows, then 13 with the first row that has no
  * such offset. 13 says that this planner gave up, not that the table has no plan.
- * Otherwise number is 0 and offsets[0] to offsets[rows-1] are the plan. */
+ * Otherwise number is 0 and offsets[0] to offsets[rows-1] are the plan.
+ * It tries offset after offset, so its time grows with the period: with 64 rows and a period of
+ * 1,000,000 a plan takes some 30 milliseconds, a refusal up to a quarter of a second. Meta-Offset
+ * takes less than a tenth of a millisecond there (docs/BENCHMARKS.md). */
 void seamwhisk_first_fit(uint32_t period, uint32_t size, const uint32_t *delays, size_t rows,
                          uint32_t *offsets, size_t room, seamwhisk_planned *answer);
 

@@ -34,9 +34,15 @@ pub fn all() -> Vec<Vector> {
         text_end_line,
         text_numbers,
         text_limits,
+        texts_with_four_lent,
+        texts_of_64_rows,
         plan_file_numbers,
         plan_file_orders,
+        files_with_four_lent,
+        files_accepted,
         writer,
+        writer_orders,
+        longest_file,
         program,
     ] {
         vectors.extend(group());
@@ -461,6 +467,68 @@ fn text_limits() -> Vec<Vector> {
     ]
 }
 
+/// Texts with a list of four, which stays as it was where they are refused.
+fn texts_with_four_lent() -> Vec<Vector> {
+    let texts: [(&str, &[u8], u64, u64); 21] = [
+        ("01 newline lost", b"pma 1\n10 2\n0\n37\nend 3\n", 9, 16),
+        ("E1", b"pma 1\n10 2\n0\n3\n7\nend 3", 3, 17),
+        ("E3", b"pma 1\n5 0\n", 6, 6),
+        ("E5", b"pma 1\n10 2\n1\nend1\n", 4, 13),
+        ("E5", b"pma 1\n10 2\n1\nEnd 1\n", 4, 13),
+        ("E6", b"pma 1\n10 2\n1\nend 01\n", 4, 13),
+        ("E6", b"pma 1\n10 2\n1\nend 1 \n", 4, 13),
+        ("E7", b"pma 1\n10 2\n0\n3\n7\nend 3\nx", 10, 23),
+        ("E7", b"pma 1\n10 2\n0\n3\n7\nend 3\n\n", 10, 23),
+        ("E7", b"pma 1\n10 2\n0\n3\n7\nend 2\nx", 9, 17),
+        ("E8 nine digits", b"pma 1\n10 2\n123456789\nend 1\n", 4, 11),
+        ("E8", b"pma 1\n10 2\n16777216\nend 1\n", 7, 11),
+        ("E8", b"pma 1\n10 2\n99999999\nend 1\n", 7, 11),
+        ("E8 period", b"pma 1\n10000000 2\n1\nend 1\n", 5, 6),
+        ("E8 leading zero", b"pma 1\n10 2\n01\nend 1\n", 4, 11),
+        ("E11 return", b"pma 1\r\n10 2\r\n1\r\nend 1\r\n", 2, 0),
+        ("E11 tab", b"pma 1\n10\t2\n", 4, 6),
+        ("E11 high byte", b"pma 1\n10 2\n\xFF\n", 4, 11),
+        ("E11 BOM", b"\xEF\xBB\xBFpma 1\n10 2\n1\nend 1\n", 2, 0),
+        ("E14", b"end 3\n", 2, 0),
+        ("E15", b"pma 1\n10 2\n\n", 4, 11),
+    ];
+    let mut vectors: Vec<Vector> = texts
+        .iter()
+        .map(|&(name, text, number, place)| {
+            is(name, text_into(text, 4), &[number, place, 0, 0, 0, 90, 91, 92, 93])
+        })
+        .collect();
+    vectors.extend([
+        is(
+            "E8 eight digits",
+            text_into(b"pma 1\n10 2\n16777215\nend 1\n", 4),
+            &[0, 0, 10, 2, 1, 16_777_215, 91, 92, 93],
+        ),
+        rows_refused("E12 fault before 11", "0\n37\nend 3\n", 9, 16),
+        rows_refused("E12 fault before 11", "0\n3\n7\nend 3\nx", 10, 23),
+        is("E12 enough", text_into(b"pma 1\n10 2\n0\n3\nend 2\n", 2), &[0, 0, 10, 2, 2, 0, 3]),
+    ]);
+    vectors
+}
+
+/// The 65th line behind line two, with a list of 65.
+fn texts_of_64_rows() -> Vec<Vector> {
+    let text = |rest: &str| format!("pma 1\n10 2\n{}{rest}", "1\n".repeat(64)).into_bytes();
+    let kept: Vec<u64> = (90..155).collect();
+    let refused = |rest, number| {
+        let answer = [&[number, 139, 0, 0, 0], &kept[..]].concat();
+        is("E9", text_into(&text(rest), 65), &answer)
+    };
+    let rows = [&[0, 0, 10, 2, 64][..], &[1; 64], &[154]].concat();
+    vec![
+        refused("16777216\n", 7),
+        refused("5\n", 8),
+        refused("x\n", 4),
+        refused("5", 3),
+        is("E9", text_into(&text("end 64\n"), 65), &rows),
+    ]
+}
+
 fn plan_file_numbers() -> Vec<Vector> {
     vec![
         body_refused("F1", &[0], 5, 4),
@@ -514,6 +582,58 @@ fn plan_file_orders() -> Vec<Vector> {
     ]
 }
 
+/// Files with lists of four that stay as they were.
+fn files_with_four_lent() -> Vec<Vector> {
+    let files: [(&str, &[u8], u64, u64); 17] = [
+        ("F3 other tag", b"PXA\x01\x0A\x02\x01\0\0", 16, 0),
+        ("F2 cut in the period", b"PMA\x01\x80\x80", 16, 4),
+        ("F2 last number cut", b"PMA\x01\x0A\x02\x03\0\0\x03\x02\x07", 16, 12),
+        ("F5 80 00", b"PMA\x01\x80\0\x02\x01\0\0", 16, 4),
+        ("F5 80 80 00", b"PMA\x01\x80\x80\0\x02\x01\0\0", 16, 4),
+        ("F5 AC 82 00", b"PMA\x01\xAC\x82\0\x02\x01\0\0", 16, 4),
+        ("F5 AC 82 00 as size", b"PMA\x01\x0A\xAC\x82\0\x01\0\0", 16, 5),
+        ("F5 80 80 80 00", b"PMA\x01\x80\x80\x80\0\x02\x01\0\0", 16, 4),
+        ("F4 five bytes", b"PMA\x01\x80\x80\x80\x80\x01\x02\x01\0\0", 16, 4),
+        ("F4 FF FF FF 7F", b"PMA\x01\xFF\xFF\xFF\x7F\x02\x01\0\0", 5, 4),
+        ("01 size 6 with period 5", b"PMA\x01\x05\x06\x01\0\0", 6, 5),
+        ("F1 size 0", b"PMA\x01\x05\0\x01\0\0", 6, 5),
+        ("F1 delay 2^24", b"PMA\x01\x0A\x02\x01\x80\x80\x80\x08\0", 7, 7),
+        ("F6 left over", b"PMA\x01\x0A\x02\x03\0\0\x03\x02\x07\x05\0", 16, 13),
+        ("F6 left over, 18", b"PMA\x01\x0A\x02\x02\0\0\0\x01\0", 16, 11),
+        ("F6 18", b"PMA\x01\x0A\x02\x02\0\0\0\x01", 18, 1),
+        ("D2 reader", b"PMA\x01\x0A\x02\x04\0\0\0\x05\0\x05\0\0", 18, 2),
+    ];
+    let mut vectors: Vec<Vector> = files
+        .iter()
+        .map(|&(name, bytes, number, place)| {
+            let answer = [number, place, 0, 0, 0, 90, 91, 92, 93, 70, 71, 72, 73];
+            is(name, file_into(bytes, 4, 4), &answer)
+        })
+        .collect();
+    vectors.push(is(
+        "F6 18 before 11",
+        file_into(&file(&[10, 2, 2, 0, 0, 0, 1]), 1, 3),
+        &[18, 1, 0, 0, 0, 90, 70, 71, 72],
+    ));
+    vectors
+}
+
+/// Files of one row, with lists of four that keep their tails.
+fn files_accepted() -> Vec<Vector> {
+    let files: [(&str, &[u8], u64, u64); 3] = [
+        ("01 AC 02", b"PMA\x01\xAC\x02\x02\x01\0\0", 300, 0),
+        ("F5 80 80 01", b"PMA\x01\x80\x80\x01\x02\x01\0\0", 16_384, 0),
+        ("01 FF FF FF 07", b"PMA\x01\x0A\x02\x01\xFF\xFF\xFF\x07\0", 10, 16_777_215),
+    ];
+    files
+        .iter()
+        .map(|&(name, bytes, period, delay)| {
+            let answer = [0, 0, period, 2, 1, delay, 91, 92, 93, 0, 71, 72, 73];
+            is(name, file_into(bytes, 4, 4), &answer)
+        })
+        .collect()
+}
+
 fn writer() -> Vec<Vector> {
     let plan: [u64; 3] = [0, 2, 5];
     let short: Vec<u64> = (200..212).collect();
@@ -536,6 +656,51 @@ fn writer() -> Vec<Vector> {
             write(300, 1, &[16_777_215], &[128], 15),
             &[0, 0, 14, 0x50, 0x4D, 0x41, 1, 0xAC, 2, 1, 1, 255, 255, 255, 7, 0x80, 1, 214],
         ),
+    ]
+}
+
+/// The writer's order, with a buffer of fifteen that stays as it was.
+fn writer_orders() -> Vec<Vector> {
+    let kept: Vec<u64> = (200..215).collect();
+    let refused =
+        |name, case, number, place| is(name, case, &[&[number, place, 0], &kept[..]].concat());
+    let bad = [0, 99, 5];
+    let short = [99, 0];
+    let meeting = [0, 2, 4];
+    vec![
+        refused("F10 period 0", write(0, 2, FIRST, &bad, 15), 5, 0),
+        refused("F10 size 6", write(5, 6, FIRST, &bad, 15), 6, 0),
+        refused("F10 no rows", write(10, 2, &[], &bad, 15), 8, 0),
+        refused("F10 65 rows", write(10, 2, &[0; 65], &bad, 15), 8, 0),
+        refused("F10 7 before 17", write(10, 2, &[0, 1 << 24], &short, 15), 7, 1),
+        refused("F10 11 before 17", write(10, 2, FIRST, &short, 15), 11, 0),
+        refused("F10 11 before 17", write(10, 2, &FIRST[..2], &bad, 15), 11, 0),
+        refused("F10 17", write(10, 2, FIRST, &bad, 15), 17, 1),
+        refused("F10 18", write(10, 2, FIRST, &meeting, 15), 18, 2),
+        is("F10 18", write(10, 2, FIRST, &meeting, 4), &[18, 2, 0, 200, 201, 202, 203]),
+        is(
+            "01 300 is AC 02",
+            write(300, 2, &[16_777_215], &[299], 15),
+            &[0, 0, 14, 0x50, 0x4D, 0x41, 1, 0xAC, 2, 2, 1, 255, 255, 255, 7, 0xAB, 2, 214],
+        ),
+    ]
+}
+
+/// The longest file of a clear plan, written and read back: sixty-four rows of seven bytes, 128
+/// slots from each to the next.
+fn longest_file() -> Vec<Vector> {
+    let delays = [16_777_215; 64];
+    let offsets: Vec<u64> = (0..64).map(|row| 16_384 + 128 * row).collect();
+    let mut file = b"PMA\x01\xC0\x84\x3D\x80\x01\x40".to_vec();
+    for row in 0..64 {
+        file.extend([0xFF, 0xFF, 0xFF, 7, 0x80, 0x80 + row, 1]);
+    }
+    let bytes: Vec<u64> = file.iter().map(|&byte| u64::from(byte)).collect();
+    let written = [&[0, 0, 458], &bytes[..]].concat();
+    let read = [&[0, 0, 1_000_000, 128, 64], &delays[..], &offsets].concat();
+    vec![
+        is("F9", write(1_000_000, 128, &delays, &offsets, 458), &written),
+        is("F9", file_into(&file, 64, 64), &read),
     ]
 }
 

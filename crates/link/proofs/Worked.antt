@@ -1,6 +1,6 @@
 -- Each promise used once: a message over slot P-1 meets one at slot 0, by its differences; document 01's single row. Assumes nothing.
 use mathlib.Core.Path.{_≡_, refl, sym, _∙_}
-use mathlib.Core.Bool.{true, false, not}
+use mathlib.Core.Bool.{true, not}
 use mathlib.Core.List.{[], _∷_}
 use native.Mathlib.Omega.{arith}
 use Rattle.ground.specs.Least.{oneMore, least}
