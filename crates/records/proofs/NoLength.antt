@@ -24,13 +24,13 @@ isRefusal refusal = true
 
 module _ (k : Link) (ds os : List ℕ) where
   -- the refusals that are left
-  abbrev onlyOffsets : List Cause
+  abbrev pub onlyOffsets : List Cause
   onlyOffsets = atRow (λ i. leb (k .period) (getD os i 0)) (length os) badOffset ∷ []
 
-  abbrev others : List Cause
+  abbrev pub others : List Cause
   others = andThen (tableFaults k ds) onlyOffsets
 
-  passes : length os ≡ length ds → first (planFaults k ds os) ≡ first others
+  pub passes : length os ≡ length ds → first (planFaults k ds os) ≡ first others
   unfolding offsetFaults andThen
   passes h =
       let over : first (offsetFaults k ds os) ≡ first onlyOffsets = sym (pass _ _ _ _ (ap not (eq-eqb _ _ h)) refl) in

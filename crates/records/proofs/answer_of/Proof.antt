@@ -1,0 +1,98 @@
+-- Each return is what decides (`Deciding`): the tests before it say which lines of the judging do not apply.
+use mathlib.Core.Path.{sym, _∙_}
+use borrow.Author.Needs.{needs}
+use Rattle.checker.specs.Answer.{said}
+use Rattle.records.proofs.Deciding.{link-decides, no-rows, too-many, delay-decides, offset-decides}
+use Rattle.records.proofs.Deciding.{nobody-decides, collision-decides}
+use Rattle.records.proofs.answer_of.Statement.{statement}
+use Rattle.records.proofs.answer_of.Tie as tie
+
+link-values-requires : tie.Need-link-values-requires
+link-values-requires c κs = search needs
+
+enum-known-number : tie.Need-enum-known-number
+enum-known-number c = search needs
+
+returns : tie.Need-returns
+unfolding said
+returns c rs many w =
+    link-decides _ rs _ _ many w _ _ (sym (c .before .before .before .link-values .ensures) ∙ c .before .number .given .1)
+
+enum-told : tie.Need-enum-told
+enum-told c = search needs
+
+returns-2 : tie.Need-returns-2
+unfolding said
+returns-2 c rs many w =
+    let at-fine = c .before in
+    let good = sym (at-fine .before .before .link-values .ensures) ∙ at-fine .enum-told .given .1 in
+    no-rows _ rs _ _ many w good (c .if1 .taken)
+
+returns-3 : tie.Need-returns-3
+unfolding said
+returns-3 c rs many w =
+    let at-fine = c .before .before in
+    let good = sym (at-fine .before .before .link-values .ensures) ∙ at-fine .enum-told .given .1 in
+    too-many _ rs _ _ many w good (c .if2 .taken)
+
+returns-4 : tie.Need-returns-4
+unfolding said
+returns-4 c rs many w =
+    let at-rows = c .before .before in
+    let at-fine = at-rows .before .before in
+    let good = sym (at-fine .before .before .link-values .ensures) ∙ at-fine .enum-told .given .1 in
+    delay-decides _ rs _ _ many w good (at-rows .before .if1 .left) (at-rows .if2 .left) (c .if3 .taken)
+
+returns-5 : tie.Need-returns-5
+unfolding said
+returns-5 c rs many w =
+    let at-delays = c .before .before in
+    let at-rows = at-delays .before .before in
+    let at-fine = at-rows .before .before in
+    let good = sym (at-fine .before .before .link-values .ensures) ∙ at-fine .enum-told .given .1 in
+    offset-decides _ rs _ _ many w good (at-rows .before .if1 .left) (at-rows .if2 .left) (at-delays .if3 .left) (c .if4 .taken)
+
+enum-told-2 : tie.Need-enum-told-2
+enum-told-2 c = search needs
+
+enum-known-met : tie.Need-enum-known-met
+enum-known-met c = search needs
+
+returns-6 : tie.Need-returns-6
+unfolding said
+returns-6 c rs many w =
+    let at-offsets = c .before .before .before in
+    let at-delays = at-offsets .before .before in
+    let at-rows = at-delays .before .before in
+    let at-fine = at-rows .before .before in
+    let good = sym (at-fine .before .before .link-values .ensures) ∙ at-fine .enum-told .given .1 in
+    nobody-decides _ rs _ _ many w good (at-rows .before .if1 .left) (at-rows .if2 .left) (at-delays .if3 .left) (at-offsets .if4 .left)
+    (c .enum-told2 .given .1)
+
+returns-7 : tie.Need-returns-7
+unfolding said
+returns-7 c rs many w =
+    let at-offsets = c .before .before .before .before in
+    let at-delays = at-offsets .before .before in
+    let at-rows = at-delays .before .before in
+    let at-fine = at-rows .before .before in
+    let good = sym (at-fine .before .before .link-values .ensures) ∙ at-fine .enum-told .given .1 in
+    collision-decides _ rs _ _ many w good (at-rows .before .if1 .left) (at-rows .if2 .left) (at-delays .if3 .left) (at-offsets .if4 .left)
+    _ _ (c .before .met .given .1)
+
+pub answer-of-spec : {M : Type 1} → statement M
+answer-of-spec =
+    tie.close
+    (tie.spec
+    link-values-requires
+    enum-known-number
+    returns
+    enum-told
+    returns-2
+    returns-3
+    returns-4
+    returns-5
+    enum-told-2
+    enum-known-met
+    returns-6
+    returns-7)
