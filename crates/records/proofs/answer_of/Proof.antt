@@ -1,11 +1,16 @@
 -- Each return is what decides (`Deciding`): the tests before it say which lines of the judging do not apply.
-use mathlib.Core.Path.{sym, _∙_}
+use mathlib.Core.Path.{_≡_, sym, _∙_}
 use borrow.Author.Needs.{needs}
+use Rattle.link.specs.Refusal.{first, linkFaults}
+use Rattle.link.specs.declared.Judged.the-variants.{Fine}
+use Rattle.link.proofs.judge.link_values.Reads as judge
 use Rattle.checker.specs.Answer.{said}
 use Rattle.records.proofs.Deciding.{link-decides, no-rows, too-many, delay-decides, offset-decides}
 use Rattle.records.proofs.Deciding.{nobody-decides, collision-decides}
 use Rattle.records.proofs.answer_of.Statement.{statement}
 use Rattle.records.proofs.answer_of.Tie as tie
+use Rattle.records.proofs.answer_of.Reads as reads
+use Rattle.records.proofs.answer_of.Lts as lts
 
 link-values-requires : tie.Need-link-values-requires
 link-values-requires c κs = search needs
@@ -21,36 +26,32 @@ returns c rs many w =
 enum-told : tie.Need-enum-told
 enum-told c = search needs
 
+-- from here on the link's own values are in range
+good : (c : lts.After-enum-told (judge.Asked, judge.Learnt) reads.Pre reads.Post)
+    → first (linkFaults (c .before .before .before .args .link)) ≡ Fine
+good c = sym (c .before .before .link-values .ensures) ∙ c .enum-told .given .1
+
 returns-2 : tie.Need-returns-2
 unfolding said
-returns-2 c rs many w =
-    let at-fine = c .before in
-    let good = sym (at-fine .before .before .link-values .ensures) ∙ at-fine .enum-told .given .1 in
-    no-rows _ rs _ _ many w good (c .if1 .taken)
+returns-2 c rs many w = no-rows _ rs _ _ many w (good (c .before)) (c .if1 .taken)
 
 returns-3 : tie.Need-returns-3
 unfolding said
-returns-3 c rs many w =
-    let at-fine = c .before .before in
-    let good = sym (at-fine .before .before .link-values .ensures) ∙ at-fine .enum-told .given .1 in
-    too-many _ rs _ _ many w good (c .if2 .taken)
+returns-3 c rs many w = too-many _ rs _ _ many w (good (c .before .before)) (c .if2 .taken)
 
 returns-4 : tie.Need-returns-4
 unfolding said
 returns-4 c rs many w =
     let at-rows = c .before .before in
-    let at-fine = at-rows .before .before in
-    let good = sym (at-fine .before .before .link-values .ensures) ∙ at-fine .enum-told .given .1 in
-    delay-decides _ rs _ _ many w good (at-rows .before .if1 .left) (at-rows .if2 .left) (c .if3 .taken)
+    delay-decides _ rs _ _ many w (good (at-rows .before .before)) (at-rows .before .if1 .left) (at-rows .if2 .left) (c .if3 .taken)
 
 returns-5 : tie.Need-returns-5
 unfolding said
 returns-5 c rs many w =
     let at-delays = c .before .before in
     let at-rows = at-delays .before .before in
-    let at-fine = at-rows .before .before in
-    let good = sym (at-fine .before .before .link-values .ensures) ∙ at-fine .enum-told .given .1 in
-    offset-decides _ rs _ _ many w good (at-rows .before .if1 .left) (at-rows .if2 .left) (at-delays .if3 .left) (c .if4 .taken)
+    offset-decides _ rs _ _ many w (good (at-rows .before .before)) (at-rows .before .if1 .left) (at-rows .if2 .left)
+    (at-delays .if3 .left) (c .if4 .taken)
 
 enum-told-2 : tie.Need-enum-told-2
 enum-told-2 c = search needs
@@ -64,10 +65,8 @@ returns-6 c rs many w =
     let at-offsets = c .before .before .before in
     let at-delays = at-offsets .before .before in
     let at-rows = at-delays .before .before in
-    let at-fine = at-rows .before .before in
-    let good = sym (at-fine .before .before .link-values .ensures) ∙ at-fine .enum-told .given .1 in
-    nobody-decides _ rs _ _ many w good (at-rows .before .if1 .left) (at-rows .if2 .left) (at-delays .if3 .left) (at-offsets .if4 .left)
-    (c .enum-told2 .given .1)
+    nobody-decides _ rs _ _ many w (good (at-rows .before .before)) (at-rows .before .if1 .left) (at-rows .if2 .left)
+    (at-delays .if3 .left) (at-offsets .if4 .left) (c .enum-told2 .given .1)
 
 returns-7 : tie.Need-returns-7
 unfolding said
@@ -75,10 +74,8 @@ returns-7 c rs many w =
     let at-offsets = c .before .before .before .before in
     let at-delays = at-offsets .before .before in
     let at-rows = at-delays .before .before in
-    let at-fine = at-rows .before .before in
-    let good = sym (at-fine .before .before .link-values .ensures) ∙ at-fine .enum-told .given .1 in
-    collision-decides _ rs _ _ many w good (at-rows .before .if1 .left) (at-rows .if2 .left) (at-delays .if3 .left) (at-offsets .if4 .left)
-    _ _ (c .before .met .given .1)
+    collision-decides _ rs _ _ many w (good (at-rows .before .before)) (at-rows .before .if1 .left) (at-rows .if2 .left)
+    (at-delays .if3 .left) (at-offsets .if4 .left) _ _ (c .before .met .given .1)
 
 pub answer-of-spec : {M : Type 1} → statement M
 answer-of-spec =
