@@ -1,8 +1,10 @@
 -- Laws that belong to no one function.
-pub mod Enough
-pub mod Reading
 pub mod Whole
 pub mod PlainCall
+pub mod Lengths
 pub mod NoLength
+pub mod Pairing
+pub mod Deciding
+pub mod Turns
 pub mod Promises
 pub mod Worked

@@ -1,6 +1,6 @@
 -- Lists of one length are never refused with 11. Assumes nothing.
 use mathlib.Core.Path.{_≡_, refl, sym, _∙_, ap}
-use mathlib.Core.Bool.{Bool, true, false, not}
+use mathlib.Core.Bool.{true, false, not}
 use mathlib.Core.List.{List, [], _∷_}
 use Prim.Native.Nat.{ℕ}
 use lib.Dec.{eqb, leb}
@@ -11,27 +11,21 @@ use Rattle.ground.specs.Judging.{Cause, atRow, first, andThen}
 use Rattle.link.specs.Refusal.{linkFaults, rowFaults, tableFaults, offsetFaults, planFaults}
 use Rattle.link.specs.Rows.{spanOf}
 use Rattle.link.specs.declared.Link.{Link}
-use Rattle.ground.specs.declared.Judged.{Judged}
-use Rattle.ground.specs.declared.Judged.the-variants.{Fine, Fault}
+use Rattle.ground.specs.declared.Judged.the-variants.{Fault}
 use Rattle.ground.proofs.Bools.{clash}
 use Rattle.ground.proofs.Faults.{pass, first-append, orElse, allNumbers, number-of}
-use Rattle.checker.specs.Answer.{Said, Verdict, clear, collision, refusal, refusing, unless, answer}
-use Rattle.checker.proofs.Collisions.{Naming, nobody, earliest, naming}
-
-abbrev isRefusal : Verdict → Bool
-isRefusal clear = false
-isRefusal collision = false
-isRefusal refusal = true
+use Rattle.checker.specs.Answer.{refusing, answer}
+use Rattle.checker.proofs.Collisions.{naming, refusal-told}
 
 module _ (k : Link) (ds os : List ℕ) where
   -- the refusals that are left
-  abbrev onlyOffsets : List Cause
+  abbrev pub onlyOffsets : List Cause
   onlyOffsets = atRow (λ i. leb (k .period) (getD os i 0)) (length os) badOffset ∷ []
 
-  abbrev others : List Cause
+  abbrev pub others : List Cause
   others = andThen (tableFaults k ds) onlyOffsets
 
-  passes : length os ≡ length ds → first (planFaults k ds os) ≡ first others
+  pub passes : length os ≡ length ds → first (planFaults k ds os) ≡ first others
   unfolding offsetFaults andThen
   passes h =
       let over : first (offsetFaults k ds os) ≡ first onlyOffsets = sym (pass _ _ _ _ (ap not (eq-eqb _ _ h)) refl) in
@@ -41,11 +35,8 @@ module _ (k : Link) (ds os : List ℕ) where
   unfolding andThen linkFaults rowFaults allNumbers
   not-eleven n p = number-of (λ m. not (eqb m badLength)) others n p refl
 
-  told : (j : Judged) (s : Said) (p : ℕ) → Naming (k .period) (spanOf k) ds os s → first others ≡ j → refusing badLength p ≡ unless j s → ⊥
-  told Fine s p (nobody b) g h = clash {x = false} (ap (λ (x : Said). isRefusal (x .verdict)) (sym h)) refl
-  told Fine s p (earliest i j c l b m) g h = clash {x = false} (ap (λ (x : Said). isRefusal (x .verdict)) (sym h)) refl
-  told (Fault n q) s p w g h = clash {x = false} (rw (← ap (λ (x : Said). x .number) h) at (not-eleven n q g)) refl
-
   pub never : length os ≡ length ds → (p : ℕ) → refusing badLength p ≡ answer k ds os → ⊥
   unfolding answer
-  never h p = told (first (planFaults k ds os)) _ p (naming (k .period) (spanOf k) ds os) (sym (passes h))
+  never h p e =
+      let f = refusal-told (k .period) (spanOf k) ds os (first (planFaults k ds os)) badLength p (naming (k .period) (spanOf k) ds os) e in
+      clash {x = false} (not-eleven badLength p (sym (passes h) ∙ f)) refl

@@ -3,7 +3,6 @@ use mathlib.Core.Path.{_≡_, sym, _∙_, ap}
 use mathlib.Core.Logic.{_↔_}
 use mathlib.Core.List.{List}
 use Prim.Native.Nat.{ℕ}
-use lib.ListN.{length, length-map}
 use Rattle.link.specs.Limits.{badLength}
 use Rattle.link.specs.Range.{GoodPlan}
 use Rattle.link.specs.Rows.{spanOf, Clear}
@@ -15,11 +14,8 @@ use Rattle.checker.specs.declared.Checked.the-variants.{Clear as Clearly, Colli
 use Rattle.checker.proofs.Promises as checker
 use Rattle.records.specs.Columns.{delaysOf, offsetsOf}
 use Rattle.records.specs.declared.Record.{Record}
+use Rattle.records.proofs.Lengths.{one-each}
 use Rattle.records.proofs.NoLength.{never}
-
-one-each : (rs : List Record) → length (offsetsOf rs) ≡ length (delaysOf rs)
-unfolding delaysOf offsetsOf
-one-each rs = length-map rs _ ∙ sym (length-map rs _)
 
 module _ (k : Link) (rs : List Record) (r : Checked) (e : said r ≡ answer k (delaysOf rs) (offsetsOf rs)) where
   -- no second answer meets the contract

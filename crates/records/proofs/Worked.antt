@@ -4,7 +4,7 @@ use mathlib.Core.List.{List, [], _∷_}
 use Prim.Native.Nat.{ℕ}
 use lib.ListN.{replicate}
 use Rattle.ground.specs.Least.{least, oneMore}
-use Rattle.link.specs.Limits.{badDelay, badRows}
+use Rattle.link.specs.Limits.{badDelay, badRows, badLength}
 use Rattle.ground.specs.Judging.{first, outside, andThen}
 use Rattle.link.specs.Refusal.{linkFaults, rowFaults, offsetFaults}
 use Rattle.link.specs.Rows.{Clear}
@@ -16,7 +16,7 @@ use Rattle.checker.specs.declared.Checked.the-variants.{Clear as Clearly, Colli
 use Rattle.checker.proofs.Worked.{collides, clears}
 use Rattle.records.specs.Columns.{delaysOf, offsetsOf}
 use Rattle.records.specs.declared.Record.{Record}
-use Rattle.records.proofs.Promises.{agrees, clear-exactly, collision-is-first}
+use Rattle.records.proofs.Promises.{no-second, agrees, clear-exactly, collision-is-first, never-length}
 
 abbrev link : Link
 link = record { period = 10; size = 2 }
@@ -40,6 +40,13 @@ pub same-answer : (r s : Checked) → said r ≡ answer link (delaysOf colliding
     → said s ≡ answer link (0 ∷ 3 ∷ 7 ∷ []) (0 ∷ 2 ∷ 4 ∷ []) → r ≡ s
 unfolding delaysOf offsetsOf
 same-answer r s e f = agrees link colliding r e (0 ∷ 3 ∷ 7 ∷ []) (0 ∷ 2 ∷ 4 ∷ []) s refl refl f
+
+-- a record has one of each
+pub never-eleven : (r : Checked) (p : ℕ) → said r ≡ answer link (delaysOf colliding) (offsetsOf colliding) → r ≡ Refused badLength p → ⊥
+never-eleven r p e = never-length link colliding r e p
+
+pub only-collision : (r : Checked) → said r ≡ answer link (delaysOf colliding) (offsetsOf colliding) → r ≡ Collision 0 2 2
+only-collision r e = no-second link colliding r e (Collision 0 2 2) records-collide
 
 abbrev clear-one : List Record
 clear-one = a 0 0 ∷ a 3 2 ∷ a 7 5 ∷ []

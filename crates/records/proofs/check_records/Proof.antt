@@ -1,7 +1,6 @@
--- `records::check_records` meets its contract: a walk of its MIR, by hand. Each turn of its loop looks into the borrow for one
--- record and shuts it again; the rest is left to covered functions, of which only their contracts are known (`Callees`).
--- The loop's invariant: the records before i stand in the two lists. What falls is the number of records still to read.
--- Numbers, and structs of them, own only facts: none is carried, and a call's arguments are owned anew. Assumes nothing.
+-- A walk of `check_records`' MIR, by hand: each turn of its loop looks into the borrow for one record, shuts it again and hands the
+-- record on to a covered function, of which only the contract is known (`Callees`). Invariant: what is seen is what the records before
+-- i show; what falls is the number still to read. Plain values own only facts: a call's arguments are owned anew. Assumes nothing.
 mod Callees
 mod Frame
 use mathlib.Core.Path.{_≡_, refl, sym, _∙_, ap}
@@ -19,7 +18,7 @@ use base.Logic.{SProp, ent, emp, via, fst∗}
 use base.Fml.{Lft, GName, Share, Fml, ftrue, fat, flft, fshr-bor}
 use prog.Memory.{Memory}
 use prog.Routine.{Routine}
-use prog.Wp.{Heap, Out, Env, Calls, Loops, Wp, WpFn, Tables, afterSeq, afterBlock, afterTurn, atReturn}
+use prog.Wp.{Heap, Out, Env, Wp, WpFn, Tables, afterSeq, afterBlock, afterTurn, atReturn}
 use ghost.Atoms.{Atoms}
 use contract.Monad.{Fun}
 use contract.Running.{givenOf, tables, tablesOf}
@@ -57,15 +56,15 @@ use Rattle.checker.specs.declared.Checked.{Checked}
 use Rattle.checker.proofs.Checked as Ch
 use Rattle.checker.proofs.Checked.Laws as Ch′
 use Rattle.records.specs.Columns.{delaysOf, offsetsOf}
-use Rattle.records.specs.Lists.{toRead}
+use Rattle.records.specs.Seen.{toRead, Shows}
 use Rattle.records.specs.declared.Record.{Record}
-use Rattle.records.specs.declared.Lists.{Lists}
+use Rattle.records.specs.declared.Seen.{Seen}
 use Rattle.records.proofs.Record as R
 use Rattle.records.proofs.Record.Laws as R′
-use Rattle.records.proofs.Lists as T
-use Rattle.records.proofs.Lists.Laws as T′
-use Rattle.records.proofs.Reading.{blank, Turn, Nearer, Nearer-wf, inside, small, fits, next-fits, scaled}
-use Rattle.records.proofs.Reading.{first-turn, next-turn, nearer, read-fits, read-low, all-read}
+use Rattle.records.proofs.Seen as S
+use Rattle.records.proofs.Seen.Laws as S′
+use Rattle.records.proofs.Turns.{blank, Turn, Nearer, Nearer-wf, inside, small, fits, next-fits, scaled, row-at}
+use Rattle.records.proofs.Turns.{first-turn, next-turn, nearer, all-seen}
 use Rattle.records.proofs.Whole.{local, sets, gets}
 use Rattle.records.proofs.check_records.Key.{name as #records·check-records}
 use Rattle.records.proofs.check_records as f
@@ -73,7 +72,7 @@ use Rattle.records.proofs.check_records.Statement as stated
 use Rattle.records.proofs.check_records.Code as code
 use Rattle.records.proofs.check_records.Code.Mir as mir
 use Rattle.records.proofs.check_records.Proof.Frame.{Places, places, En, Fresh, Filled, word}
-use Rattle.records.proofs.check_records.Proof.Callees.{Known, knows, reads, begins, stores, checks}
+use Rattle.records.proofs.check_records.Proof.Callees.{Known, knows, reads, begins, sees, answers}
 
 abbrev stayed : Stays (f.ended .signature .params) (f.ended .kept)
 stayed = (stay-none (λ _. Lk.the-row) yes, (stay-none-slice (0 ∷ []) tt (plain (λ _. R.the-row)) yes, tt))
@@ -124,12 +123,6 @@ module _ {M : Type 1} (𝓤 : URA M) (H : Heap 𝓤) (A : Atoms 𝓤) (W : Given
       owned ! Ch.the-row (Is Ch.the-row) (EL.makes Ch.the-type Ch′.the-plain 𝓤 H A) c _ is $ done !
 
   module _ (𝓣 : Tables 𝓤 H) (known : Known 𝓤 H A mem run (𝓣 .C)) (room : Room R.the-row n) (ik : Is Lk.the-row k (vk ∷ [])) where
-    abbrev C : Calls 𝓤 H
-    C = 𝓣 .C
-
-    abbrev Λ : Loops 𝓤 H
-    Λ = 𝓣 .Λ
-
     abbrev Entry : List (Item 𝓤)
     Entry = (‵ (flft κ q) ⊛ ‵ ftrue) ∷ ‵ (owns (Lk.the-row ∷ ShrSlice (named 0) κ R.the-row ∷ []) (k, (x, tt)) at) ∷ []
 
@@ -138,94 +131,93 @@ module _ {M : Type 1} (𝓤 : URA M) (H : Heap 𝓤) (A : Atoms 𝓤) (W : Given
       E = En 𝓤 ls H
 
       -- at the loop's head: the token, the borrow, the locals, and what the slice owns, kept for the exit
-      abbrev At : Turn rs → List (Item 𝓤)
-      At t = ‵ (flft κ q) ∷ ‵ Shared ∷ Filled 𝓤 ls vk v (t .i) (t .u) rows (‵ Own ∷ [])
+      abbrev At : Turn k rs → List (Item 𝓤)
+      At t = ‵ (flft κ q) ∷ ‵ Shared ∷ Filled 𝓤 ls vk v (t .i) (t .u) rows n (‵ Own ∷ [])
 
       -- a turn's postcondition: it ends with fewer records to read, or the loop is left and the rest of the body runs
-      abbrev Turned : Turn rs → Out → SProp 𝓤
+      abbrev Turned : Turn k rs → Out → SProp 𝓤
       Turned t =
-          afterTurn 𝓤 H (Below 𝓤 H A (Nearer rs) At t)
-          (afterBlock 𝓤 H (afterSeq 𝓤 H (Wp 𝓤 H C Λ E mir.t-6 (atReturn 𝓤 H E Post)) (atReturn 𝓤 H E Post)))
+          afterTurn 𝓤 H (Below 𝓤 H A Nearer At t)
+          (afterBlock 𝓤 H (afterSeq 𝓤 H (Wp 𝓤 H (𝓣 .C) (𝓣 .Λ) E mir.t-6 (atReturn 𝓤 H E Post)) (atReturn 𝓤 H E Post)))
 
-      -- every record is read: the lists are checked, and the locals freed
-      ends : (t : Turn rs) → rows ≤ t .i → Sq W (At t) (runs C Λ E mir.turn-1 (anyQ (Turned t)))
+      -- every record is read: what was seen is answered, and the locals freed
+      ends : (t : Turn k rs) → rows ≤ t .i → Sq W (At t) (runs (𝓣 .C) (𝓣 .Λ) E mir.turn-1 (anyQ (Turned t)))
       unfolding afterTurn
       ends t h =
-          sets ! (bin ! (local ! 12 refl) (local ! 16 refl) tt) (init ! 8 refl (tt, tt)) $
+          sets ! (bin ! (local ! 10 refl) (local ! 14 refl) tt) (init ! 8 refl (tt, tt)) $
           rewrite ! 8 (λ (z : Bool). ‵ (fat fullShare tyBool (ls .l₇) 0 (vbool z))) (le-ltb (t .i) rows h) refl $
-          leaves-loop ! (local ! 8 refl) $ exec ! C Λ E mir.t-6 (atRet E Post) $
-          checks ! 𝓣 known k vk rows (t .s) (t .u) ik (t .is) (read-fits n) (read-low n .1)
-          (and-then ! (local ! 21 refl) (and-then ! (local ! 17 refl) (and-then ! (local ! 15 refl) (no-more !)))) (λ w c e is.
+          leaves-loop ! (local ! 8 refl) $ exec ! (𝓣 .C) (𝓣 .Λ) E mir.t-6 (atRet E Post) $
+          answers ! 𝓣 known k vk n (t .s) (t .u) ik (t .is) (room .0)
+          (and-then ! (local ! 21 refl) (and-then ! (local ! 17 refl) (and-then ! (local ! 13 refl) (no-more !)))) (λ w c e is.
           gets ! (init ! 22 refl (EL.lawful Ch.the-type Ch′.the-laws 𝓤 H A W tt .typed c _ is .0)) $
-          returns ! (look ! 22 refl) $ forget ! 8 refl $ forget ! 12 refl $ forget ! 14 refl $ forget ! 16 refl $
-          forget ! 18 refl $ forget ! 20 refl $ forget ! 22 refl $
+          returns ! (look ! 22 refl) $ forget ! 8 refl $ forget ! 10 refl $ forget ! 12 refl $ forget ! 14 refl $
+          forget ! 16 refl $ forget ! 18 refl $ forget ! 20 refl $ forget ! 22 refl $
           move ! (22 ∷ 23 ∷ []) $ free1 ! $ move ! (20 ∷ 21 ∷ []) $ free1 ! $ move ! (18 ∷ 19 ∷ []) $ free1 ! $
           move ! (16 ∷ 17 ∷ []) $ free1 ! $ move ! (14 ∷ 15 ∷ []) $ free1 ! $ move ! (12 ∷ 13 ∷ []) $ free1 ! $
           move ! (10 ∷ 11 ∷ []) $ free1 ! $ move ! (8 ∷ 9 ∷ []) $ free1 ! $ move ! (6 ∷ 7 ∷ []) $ free1 ! $
           move ! (4 ∷ 5 ∷ []) $ free1 ! $ move ! (2 ∷ 3 ∷ []) $ free1 ! $ free0 ! $ keep ! (0 ∷ 2 ∷ []) $
-          by ! (exits ik c w is (e ∙ all-read rs k t h)))
+          by ! (exits ik c w is (e rs refl (all-seen t h))))
 
-      -- one record is read and put into the lists
-      more : (t : Turn rs) → t .i < rows → Sq W (At t) (runs C Λ E mir.turn-1 (anyQ (Turned t)))
+      -- one record is read and seen too
+      more : (t : Turn k rs) → t .i < rows → Sq W (At t) (runs (𝓣 .C) (𝓣 .Λ) E mir.turn-1 (anyQ (Turned t)))
       unfolding afterTurn
       more t h =
-          sets ! (bin ! (local ! 12 refl) (local ! 16 refl) tt) (init ! 8 refl (tt, tt)) $
+          sets ! (bin ! (local ! 10 refl) (local ! 14 refl) tt) (init ! 8 refl (tt, tt)) $
           rewrite ! 8 (λ (z : Bool). ‵ (fat fullShare tyBool (ls .l₇) 0 (vbool z))) (lt-ltb (t .i) rows h) refl $
           stays ! (local ! 8 refl) $
           -- the place of records[i]
-          sets ! (bin ! (local ! 12 refl) (lit ! tt) (record { fits = scaled rs t h }))
-          (init ! 6 refl (tt, record { fits = scaled rs t h })) $
+          sets ! (bin ! (local ! 10 refl) (lit ! tt) (record { fits = scaled t h }))
+          (init ! 6 refl (tt, record { fits = scaled t h })) $
           sets ! (bin ! (load ! (from ! (fld ! refl (stop !))) (look-in ! 18 (sub ! 0 refl (whole !)))) (local ! 6 refl) tt)
           (init ! 4 refl (tt, tt)) $
           rewrite ! 4 (λ (j : ℕ). ‵ (fat fullShare tyPtr (ls .l₉) 0 (vptr b j))) (sym (place-is 8 o (t .i))) refl $ move ! (1 ∷ 0 ∷ []) $
           looks-slice ! tt R.the-row (Is R.the-row) (shows 𝓤 H A R.the-row) vals (LL.tells R.the-type R′.the-laws)
           (LL.copy R.the-type R′.the-copy 𝓤 H A W) rs b o (λ q′.
           elem-out ! R.the-row (Is R.the-row) (shows 𝓤 H A R.the-row) vals (LL.tells R.the-type R′.the-laws)
-          q′ rs (t .i) blank b o (inside rs t h) (λ g.
+          q′ rs (t .i) blank b o (inside t h) (λ g.
           -- [records[i]; what it owns; the others; what shuts; the borrow; _10; …]
           sets ! (of-opd ! (load ! (from ! (hop ! (look ! 7 refl) (stop !))) (look-raw ! 0 refl)))
           (init ! 5 refl (LL.lawful R.the-type R′.the-laws 𝓤 H A W .typed row _ g .0)) $
-          elem-back ! R.the-row q′ rs (t .i) blank (vals row) b o (inside rs t h) $ shuts-slice ! tt R.the-row q′ rs b o $
-          stores ! 𝓣 known (t .s) (t .u) (t .i) row (LL.val R.the-type R′.the-laws row) (t .is) g (fits rs t h) (small rs t h)
-          (and-then ! (local ! 15 refl) (and-then ! (local ! 13 refl) (and-then ! (local ! 3 refl) (no-more !)))) (λ u′ s′ e is.
-          gets ! (store ! 14 refl (LL.lawful T.the-type T′.the-laws 𝓤 H A W .typed s′ _ is .0)) $
-          assigns-last ! (bin ! (local ! 12 refl) (lit ! tt) (record { fits = next-fits rs t h })) (from ! (stop !))
-          (store ! 12 refl (tt, record { fits = next-fits rs t h })) $
+          elem-back ! R.the-row q′ rs (t .i) blank (vals row) b o (inside t h) $ shuts-slice ! tt R.the-row q′ rs b o $
+          sees ! 𝓣 known k vk (t .s) (t .u) (t .i) row (LL.val R.the-type R′.the-laws row) ik (t .is) g (fits t h) (small t h)
+          (and-then ! (local ! 21 refl) (and-then ! (local ! 13 refl)
+          (and-then ! (local ! 11 refl) (and-then ! (local ! 3 refl) (no-more !))))) (λ u′ s′ e is.
+          gets ! (store ! 12 refl (LL.lawful S.the-type S′.the-laws 𝓤 H A W .typed s′ _ is .0)) $
+          assigns-last ! (bin ! (local ! 10 refl) (lit ! tt) (record { fits = next-fits t h })) (from ! (stop !))
+          (store ! 10 refl (tt, record { fits = next-fits t h })) $
           forget ! 2 refl $ forget ! 4 refl $ forget ! 6 refl $ forget ! 8 refl $
-          again ! (Nearer rs) At t (next-turn rs t h s′ u′ e is) (nearer rs t h))))
+          again ! Nearer At t (next-turn t h s′ u′ (e rs (row-at t h) (t .shows)) is) (nearer t h))))
         where
           row : Record
           row = getD rs (t .i) blank
 
-      turns : (t : Turn rs) → Sq W (At t) (runs C Λ E mir.turn-1 (anyQ (Turned t)))
-      turns t = ⊎-elim (more t) (ends t) (lt-or-ge (t .i) rows)
-
       -- what the slice owns is had twice: one is kept for the exit, and of the other the borrow is taken
-      goes-round : (s : Lists) (u : Val) → Is T.the-row s (u ∷ [])
-          → Sq W (Filled 𝓤 ls vk v 0 u rows Entry) (runs C Λ E mir.t-5 (atRet E Post))
-      goes-round s u is =
+      goes-round : (s : Seen) (u : Val) → Shows k rs 0 s → Is S.the-row s (u ∷ [])
+          → Sq W (Filled 𝓤 ls vk v 0 u rows n Entry) (runs (𝓣 .C) (𝓣 .Λ) E mir.t-5 (atRet E Post))
+      goes-round s u w is =
           move ! (23 ∷ 22 ∷ []) $ fsplit ! $ drop ! $ fsplit ! $
           use1 W (‵ Own ⊛ ‵ Own) (shr-slice-copy 𝓤 H A W (named 0) κ R.the-row .twice x (v ∷ [])) $ split ! $
           fsplit ! $ drop ! $ fsplit ! $ drop ! $ move ! (3 ∷ []) $ split ! $
           -- [the token; true; the borrow; what the slice owns; true; _10; …]
           keep ! (0 ∷ 2 ∷ 5 ∷ 6 ∷ 7 ∷ 8 ∷ 9 ∷ 10 ∷ 11 ∷ 12 ∷ 13 ∷ 14 ∷ 15 ∷ 16 ∷ 17 ∷ 18 ∷ 19 ∷ 20 ∷ 21 ∷ 22 ∷ 23 ∷ 24 ∷ 25 ∷ 26 ∷ 3 ∷ []) $
-          first ! $ blocks ! $ loops ! 𝓣 (Nearer rs) (Nearer-wf rs) At turns (first-turn rs s u is)
+          first ! $ blocks ! $
+          loops ! 𝓣 Nearer Nearer-wf At (λ t. ⊎-elim (more t) (ends t) (lt-or-ge (t .i) rows)) (first-turn s u w is)
 
       -- the body up to the loop
-      starts : Sq W (Fresh 𝓤 ls vk v Entry) (runs C Λ E mir.t-1 (atRet E Post))
+      starts : Sq W (Fresh 𝓤 ls vk v Entry) (runs (𝓣 .C) (𝓣 .Λ) E mir.t-1 (atRet E Post))
       starts =
           sets ! (of-opd ! (load ! (from ! (fld ! refl (stop !))) (look-in ! 16 (sub ! 1 refl (whole !)))))
-          (init ! 8 refl (tt, record { fits = room .0 })) $
-          reads ! 𝓣 known n (room .0) (and-then ! (local ! 9 refl) (no-more !)) (λ w r e is.
-          gets ! (init ! 14 refl (uint-lawful 𝓤 H A W w64 .typed r _ is .0)) $
-          rewrite ! 14 (λ (z : Val). ‵ (fat fullShare word (ls .l₃) 0 z)) (ap only (is .0) ∙ ap (vint w64) e) refl $ forget ! 8 refl $
-          begins ! 𝓣 known (no-more !) (λ u s _ is′.
-          gets ! (init ! 12 refl (LL.lawful T.the-type T′.the-laws 𝓤 H A W .typed s _ is′ .0)) $
-          sets ! (of-opd ! (lit ! tt)) (init ! 10 refl (tt, record { fits = lit< tt })) $ goes-round s u is′))
+          (init ! 14 refl (tt, record { fits = room .0 })) $
+          reads ! 𝓣 known n (room .0) (and-then ! (local ! 15 refl) (no-more !)) (λ w r e is.
+          gets ! (init ! 12 refl (uint-lawful 𝓤 H A W w64 .typed r _ is .0)) $
+          rewrite ! 12 (λ (z : Val). ‵ (fat fullShare word (ls .l₄) 0 z)) (ap only (is .0) ∙ ap (vint w64) e) refl $
+          begins ! 𝓣 known (no-more !) (λ u s e′ is′.
+          gets ! (init ! 10 refl (LL.lawful S.the-type S′.the-laws 𝓤 H A W .typed s _ is′ .0)) $
+          sets ! (of-opd ! (lit ! tt)) (init ! 8 refl (tt, record { fits = lit< tt })) $ goes-round s u (e′ k rs) is′))
 
-    walk : ent 𝓤 (onEntry 𝓤 H A f.signature (κ, tt) (q, tt) (k, (x, tt)) at) (WpFn 𝓤 H C Λ code.function (vk ∷ v ∷ []) Post)
+    walk : ent 𝓤 (onEntry 𝓤 H A f.signature (κ, tt) (q, tt) (k, (x, tt)) at) (WpFn 𝓤 H (𝓣 .C) (𝓣 .Λ) code.function (vk ∷ v ∷ []) Post)
     walk =
-        qed W Entry ∵ enter ! C Λ code.function (vk ∷ v ∷ []) _ $
+        qed W Entry ∵ enter ! (𝓣 .C) (𝓣 .Λ) code.function (vk ∷ v ∷ []) _ $
         alloc1 ! (λ l₀. alloc1 ! (λ l₁. alloc1 ! (λ l₂. alloc1 ! (λ l₃. alloc1 ! (λ l₄. alloc1 ! (λ l₅. alloc1 ! (λ l₆. alloc1 ! (λ l₇.
         alloc1 ! (λ l₈. alloc1 ! (λ l₉. alloc1 ! (λ l₁₀. alloc0 ! $ params1 ! $
         pass1 ! (init ! 18 refl (LL.lawful Lk.the-type Lk′.the-laws 𝓤 H A W .typed k _ ik .0)) $

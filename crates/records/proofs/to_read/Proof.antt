@@ -5,10 +5,10 @@ use Rattle.records.proofs.to_read.Statement.{statement}
 use Rattle.records.proofs.to_read.Tie as tie
 
 returns : tie.Need-returns
-returns c = rw (lt-ltb maxRows _ (c .if1 .taken))
+returns c = rw (le-ltb maxRows _ (c .if1 .taken))
 
 returns-2 : tie.Need-returns-2
-returns-2 c = rw (le-ltb maxRows _ (c .if1 .left))
+returns-2 c = rw (lt-ltb maxRows _ (c .if1 .left))
 
 pub to-read-spec : {M : Type 1} → statement M
 to-read-spec = tie.close (tie.spec returns returns-2)
