@@ -5,13 +5,11 @@ use Prim.Native.Nat.{ℕ, zero, suc}
 use lib.Dec.{ltb, leb, eqb}
 use lib.ListN.{length, take, drop}
 use Rattle.ground.specs.Least.{least}
-use Rattle.text.specs.Limits.{maxText, longText, badLineOne, cutLine, badLine}
-use Rattle.link.specs.Limits.{maxDelay, maxRows}
-use Rattle.text.specs.Limits.{badCount, bytesAfter}
-use Rattle.link.specs.Limits.{badDelay, badRows, badLength}
 use Rattle.ground.specs.Judging.{Cause, when, andThen}
+use Rattle.link.specs.Limits.{maxDelay, maxRows, badDelay, badRows, badLength}
 use Rattle.link.specs.Refusal.{linkFaults}
 use Rattle.link.specs.declared.Link.{Link}
+use Rattle.text.specs.Limits.{maxText, longText, badLineOne, cutLine, badLine, badCount, bytesAfter}
 use Rattle.text.specs.Bytes.{space, seek, same, begins, titleWord, endWord}
 use Rattle.text.specs.Decimal.{isDecimal, value}
 use Rattle.text.specs.Lines.{begin, line, ended}

@@ -1,4 +1,5 @@
 -- The definitions that the contracts of `text` cite.
+pub mod Limits
 pub mod Bytes
 pub mod Decimal
 pub mod Lines

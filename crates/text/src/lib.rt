@@ -2,6 +2,7 @@
 mod bytes;
 mod decimal;
 mod judge;
+pub mod limits;
 
 use crate::limits::BYTES_AFTER;
 use crate::limits::CUT_LINE;
