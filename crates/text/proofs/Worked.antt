@@ -5,11 +5,12 @@ use Prim.Native.Nat.{ℕ, zero, suc, _≤_, _<_}
 use native.Mathlib.Omega.{arith}
 use lib.ListN.{length, getD, drop}
 use Rattle.ground.specs.Least.{oneMore, least}
+use Rattle.ground.specs.Words.{begins}
 use Rattle.link.specs.Limits.{maxDelay}
 use Rattle.link.specs.declared.Link.{Link}
 use Rattle.ground.specs.Judging.{first, outside, andThen}
 use Rattle.link.specs.Refusal.{linkFaults}
-use Rattle.text.specs.Bytes.{seek, same, begins}
+use Rattle.text.specs.Bytes.{seek, same}
 use Rattle.text.specs.Decimal.{isOther, allDigits, leadingZero, isDecimal, valueFrom}
 use Rattle.text.specs.Lines.{nextLine, begin, lineFrom, endedFrom}
 use Rattle.text.specs.Faults.{firstPart, secondPart, isPair, linkOf, isLast, countPart, placedAt}

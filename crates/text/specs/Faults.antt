@@ -5,12 +5,13 @@ use Prim.Native.Nat.{ℕ, zero, suc}
 use lib.Dec.{ltb, leb, eqb}
 use lib.ListN.{length, take, drop}
 use Rattle.ground.specs.Least.{least}
+use Rattle.ground.specs.Words.{begins}
 use Rattle.ground.specs.Judging.{Cause, when, andThen}
 use Rattle.link.specs.Limits.{maxDelay, maxRows, badDelay, badRows, badLength}
 use Rattle.link.specs.Refusal.{linkFaults}
 use Rattle.link.specs.declared.Link.{Link}
 use Rattle.text.specs.Limits.{maxText, longText, badLineOne, cutLine, badLine, badCount, bytesAfter}
-use Rattle.text.specs.Bytes.{space, seek, same, begins, titleWord, endWord}
+use Rattle.text.specs.Bytes.{space, seek, same, titleWord, endWord}
 use Rattle.text.specs.Decimal.{isDecimal, value}
 use Rattle.text.specs.Lines.{begin, line, ended}
 
