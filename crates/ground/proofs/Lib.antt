@@ -6,4 +6,5 @@ pub mod Beginning
 pub mod Filling
 pub mod Adding
 pub mod Faults
+pub mod Only
 pub mod Answers

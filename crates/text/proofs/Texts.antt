@@ -3,23 +3,27 @@ use mathlib.Core.Path.{_≡_, refl, sym, ap, _∙_}
 use mathlib.Core.List.{List, [], _∷_, _++_, map}
 use Prim.Native.Nat.{ℕ, zero, suc, _+_, _*_, _≤_, _<_, _^_}
 use native.Mathlib.Omega.{arith}
-use lib.ListN.{length, getD, take, drop, length-append, length-map, List·getD-append}
+use lib.ListN.{length, getD, take, length-append, length-map, List·getD-append}
 use lib.Seq.{take-suc, take-length, getD-at}
 use borrow.Author.Tests.{le-ltb}
 use Rattle.text.specs.Limits.{maxText, longText, bytesAfter}
 use Rattle.link.specs.Limits.{maxDelay, badLength}
 use Rattle.link.specs.Range.{GoodTable}
 use Rattle.ground.specs.Judging.{first}
+use Rattle.ground.specs.Lent.{onFront}
+use Rattle.ground.specs.Protocol.{gives, keeping}
 use Rattle.link.specs.Refusal.{linkFaults, rowFaults}
 use Rattle.link.specs.declared.Link.{Link}
 use Rattle.ground.specs.declared.Judged.the-variants.{Fine}
+use Rattle.ground.proofs.Answers.{goes-on}
 use Rattle.link.proofs.Accepted.{fine-table}
 use Rattle.ground.proofs.Faults.{pass, fine, front-pass, front-fine}
+use Rattle.text.specs.declared.Read.the-variants.{Table}
 use Rattle.text.specs.Bytes.{newline, space, same, titleWord}
 use Rattle.text.specs.Decimal.{value}
 use Rattle.text.specs.Lines.{line}
 use Rattle.text.specs.Faults.{rowsOf, endOf, lateFaults, readFaults}
-use Rattle.text.specs.Reading.{table, says, gives, delaysOf, accepted, reading}
+use Rattle.text.specs.Answer.{refusing, said, delaysOf, accepted, reading}
 use Rattle.text.specs.Writing.{digits, glue, pairLine, lastLine, tableLines, textOf}
 use Rattle.text.proofs.Spelling.{digits-decimal, digits-value, digits-short}
 use Rattle.text.proofs.Finding.{same-self}
@@ -145,9 +149,8 @@ module _ (k : Link) (ds : List ℕ) (g : GoodTable k ds) where
       (pass _ _ bytesAfter _ (le-ltb (endOf (textOf k ds)) (length (textOf k ds)) (omega (arith, text-end)))
       (pass _ _ badLength 0 (le-ltb room (rowsOf (textOf k ds)) (omega (arith, rows-right (textOf k ds) (length ds) text-right))) fine)))
 
-  text-taken : (old : List ℕ) → accepted (textOf k ds) old ≡ gives (says table 0 0 (k .period) (k .size) (length ds))
-      (ds ++ drop (length ds) old)
-  unfolding accepted
+  text-taken : (old : List ℕ) → gives (said (Table k (length ds))) (onFront ds old) ≡ accepted (textOf k ds) old
+  unfolding said accepted
   text-taken old =
       rw (
         rows-right (textOf k ds) (length ds) text-right,
@@ -175,6 +178,7 @@ module _ (k : Link) (ds : List ℕ) (g : GoodTable k ds) where
 
 -- the text of a good table is accepted as that table, wherever the list has room
 pub text-accepted : (k : Link) (ds old : List ℕ) → GoodTable k ds → length ds ≤ length old
-    → reading (textOf k ds) old ≡ gives (says table 0 0 (k .period) (k .size) (length ds)) (ds ++ drop (length ds) old)
+    → gives (said (Table k (length ds))) (onFront ds old) ≡ reading (textOf k ds) old
 unfolding reading
-text-accepted k ds old g h = rw (sym (text-fine k ds g (length old) h (text-short k ds g))) (text-taken k ds g old)
+text-accepted k ds old g h =
+    goes-on (keeping refusing old) (sym (text-fine k ds g (length old) h (text-short k ds g))) (text-taken k ds g old)

@@ -81,7 +81,8 @@ unfoldable pub linesFaults : List ℕ → ℕ → List Cause
 linesFaults x zero = []
 linesFaults x (suc k) = andThen (linesFaults x k) (lineFaults x k)
 
--- the number of rows: the lines behind line two, up to the first that begins with `end` and a space (a 65th row is refused, so no more count)
+-- the number of rows: the lines behind line two, up to the first that begins with `end` and a space; a 65th row is refused, so no more
+-- are counted
 unfoldable pub rowsOf : List ℕ → ℕ
 rowsOf x = least (λ i. isLast (line x (suc (suc i)))) (suc maxRows)
 

@@ -4,6 +4,8 @@ pub mod Bytes
 pub mod Decimal
 pub mod Lines
 pub mod Faults
-pub mod Reading
+pub mod Answer
+pub mod TextAnswer
 pub mod Steps
 pub mod Writing
+pub mod Meaning
