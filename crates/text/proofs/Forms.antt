@@ -7,9 +7,9 @@ use native.Mathlib.Numerals.{add-one}
 use native.Mathlib.Omega.{arith}
 use lib.ListN.{length, getD, take, drop}
 use lib.Seq.{split-at, take-append-seam, drop-append-add, drop-append-seam}
-use Rattle.link.specs.declared.Link.{Link}
 use Rattle.ground.proofs.Bools.{is-false, and-both}
 use Rattle.ground.proofs.Beginning.{begins-with, begins-self}
+use Rattle.link.specs.declared.Link.{Link}
 use Rattle.text.specs.Bytes.{newline, space, seek, endWord}
 use Rattle.text.specs.Decimal.{naught, isDecimal, value}
 use Rattle.text.specs.Faults.{firstPart, secondPart, isPair, linkOf, isLast, countPart}

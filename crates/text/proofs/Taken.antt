@@ -1,6 +1,6 @@
 -- An accepted text is the text of its table. Assumes nothing.
-use mathlib.Core.Path.{_≡_, refl, sym, ap, _∙_}
-use mathlib.Core.List.{List, [], _∷_, _++_, map}
+use mathlib.Core.Path.{_≡_, sym, ap, _∙_}
+use mathlib.Core.List.{List, [], _∷_, _++_, map, map-append}
 use mathlib.Core.Logic.{⊎-elim}
 use Prim.Native.Nat.{ℕ, zero, suc, _+_, _≤_, _<_}
 use native.Mathlib.Omega.{arith}
@@ -8,17 +8,17 @@ use lib.Dec.{ltb}
 use lib.ListN.{length, getD, drop, List·getD-append}
 use lib.Seq.{getD-at, take-at}
 use borrow.Author.Tests.{ltb-false, le-ltb}
-use Rattle.text.specs.Limits.{maxText, longText, bytesAfter}
-use Rattle.link.specs.Limits.{maxDelay, maxRows, badLength, badRows, badDelay}
-use Rattle.link.specs.Range.{GoodTable}
 use Rattle.ground.specs.Judging.{first}
 use Rattle.ground.specs.Lent.{onFront}
-use Rattle.link.specs.Refusal.{linkFaults, rowFaults}
 use Rattle.ground.specs.declared.Judged.the-variants.{Fine}
 use Rattle.ground.proofs.Bools.{lt-or-ge}
 use Rattle.ground.proofs.Minimum.{some-none}
-use Rattle.link.proofs.Accepted.{good-table}
 use Rattle.ground.proofs.Faults.{pass, passed, fine, front-pass, front-fine, inside}
+use Rattle.link.specs.Limits.{maxDelay, maxRows, badLength, badRows, badDelay}
+use Rattle.link.specs.Range.{GoodTable}
+use Rattle.link.specs.Refusal.{linkFaults, rowFaults}
+use Rattle.link.proofs.Accepted.{good-table}
+use Rattle.text.specs.Limits.{maxText, longText, bytesAfter}
 use Rattle.text.specs.Bytes.{titleWord}
 use Rattle.text.specs.Decimal.{value}
 use Rattle.text.specs.Lines.{begin, line}
@@ -34,10 +34,6 @@ use Rattle.text.proofs.Walk.{ended-low}
 use Rattle.text.proofs.Right.{Right, right}
 use Rattle.text.proofs.Values.{length-delays}
 
-map-more : (ds : List ℕ) (d : ℕ) → map digits (ds ++ d ∷ []) ≡ map digits ds ++ digits d ∷ []
-map-more [] d = refl
-map-more (x ∷ ds) d = ap {B = List (List ℕ)} (λ r. digits x ∷ r) (map-more ds d)
-
 module _ (x : List ℕ) (n : ℕ) (r : Right x n) where
   lines-so-far : (i : ℕ) → i ≤ n → linesTo x (suc (suc i)) ≡ titleWord ∷ pairLine (tableLink x) ∷ map digits (delaysOf x i)
   unfolding delaysOf
@@ -49,7 +45,7 @@ module _ (x : List ℕ) (n : ℕ) (r : Right x n) where
       ∙ ap {B = List (List ℕ)} (λ l. titleWord ∷ pairLine (tableLink x) ∷ (map digits (delaysOf x i) ++ l ∷ []))
       (sym (decimal-digits (line x (suc (suc i))) (r .row i h .0 .decimal)))
       ∙ ap {B = List (List ℕ)} (λ ls. titleWord ∷ pairLine (tableLink x) ∷ ls)
-      (sym (map-more (delaysOf x i) (value (line x (suc (suc i))))))
+      (sym (map-append digits (delaysOf x i) (value (line x (suc (suc i))) ∷ [])))
 
   all-lines : linesTo x (suc (suc (suc n))) ≡ tableLines (tableLink x) (delaysOf x n)
   all-lines =
@@ -57,7 +53,7 @@ module _ (x : List ℕ) (n : ℕ) (r : Right x n) where
       ∙ ap {B = List (List ℕ)} (λ l. titleWord ∷ pairLine (tableLink x) ∷ (map digits (delaysOf x n) ++ l ∷ []))
       (last-spelt n (line x (suc (suc n))) (r .last .last) (r .last .decimal) (r .last .count) ∙ ap lastLine (sym (length-delays x n)))
 
-  pub is-text : begin x (suc (suc (suc n))) ≡ length x → x ≡ textOf (tableLink x) (delaysOf x n)
+  is-text : begin x (suc (suc (suc n))) ≡ length x → x ≡ textOf (tableLink x) (delaysOf x n)
   is-text e = all-glued x (suc (suc (suc n))) (r .whole) e ∙ ap glue all-lines
 
   delay-at : (m i : ℕ) → i < m → getD (delaysOf x m) i 0 ≡ value (line x (suc (suc i)))
@@ -71,7 +67,7 @@ module _ (x : List ℕ) (n : ℕ) (r : Right x n) where
   low : (i : ℕ) → i < length (delaysOf x n) → getD (delaysOf x n) i 0 ≤ maxDelay
   low i l = let h : i < n = omega (arith, length-delays x n) in rw (delay-at n i h) (r .row i h .0 .low)
 
-  pub good : GoodTable (tableLink x) (delaysOf x n)
+  good : GoodTable (tableLink x) (delaysOf x n)
   unfolding rowFaults
   good =
       good-table _ _

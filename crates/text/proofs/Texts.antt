@@ -6,18 +6,19 @@ use native.Mathlib.Omega.{arith}
 use lib.ListN.{length, getD, take, length-append, length-map, List·getD-append}
 use lib.Seq.{take-suc, take-length, getD-at}
 use borrow.Author.Tests.{le-ltb}
-use Rattle.text.specs.Limits.{maxText, longText, bytesAfter}
-use Rattle.link.specs.Limits.{maxDelay, badLength}
-use Rattle.link.specs.Range.{GoodTable}
 use Rattle.ground.specs.Judging.{first}
 use Rattle.ground.specs.Lent.{onFront}
 use Rattle.ground.specs.Protocol.{gives, keeping}
-use Rattle.link.specs.Refusal.{linkFaults, rowFaults}
-use Rattle.link.specs.declared.Link.{Link}
 use Rattle.ground.specs.declared.Judged.the-variants.{Fine}
 use Rattle.ground.proofs.Answers.{goes-on}
-use Rattle.link.proofs.Accepted.{fine-table}
+use Rattle.ground.proofs.Lists.{getD-mapped}
 use Rattle.ground.proofs.Faults.{pass, fine, front-pass, front-fine}
+use Rattle.link.specs.Limits.{maxDelay, badLength}
+use Rattle.link.specs.Range.{GoodTable}
+use Rattle.link.specs.Refusal.{linkFaults, rowFaults}
+use Rattle.link.specs.declared.Link.{Link}
+use Rattle.link.proofs.Accepted.{fine-table}
+use Rattle.text.specs.Limits.{maxText, longText, bytesAfter}
 use Rattle.text.specs.declared.Read.the-variants.{Table}
 use Rattle.text.specs.Bytes.{newline, space, same, titleWord}
 use Rattle.text.specs.Decimal.{value}
@@ -28,8 +29,8 @@ use Rattle.text.specs.Writing.{digits, glue, pairLine, lastLine, tableLi
 use Rattle.text.proofs.Spelling.{digits-decimal, digits-value, digits-short}
 use Rattle.text.proofs.Finding.{same-self}
 use Rattle.text.proofs.Gluing.{AllFree, all-free-append, line-at, ended-at, end-at}
-use Rattle.text.proofs.Forms.{digits-without, pair-is, link-is, pair-free, last-is}
-use Rattle.text.proofs.Forms.{count-decimal, count-value, last-free, row-not-last}
+use Rattle.text.proofs.Forms.{digits-without, pair-is, link-is, pair-free, last-is, count-decimal, count-value, last-free}
+use Rattle.text.proofs.Forms.{row-not-last}
 use Rattle.text.proofs.Right.{Right, rows-right, right-fine}
 
 rows-free : (ds : List ℕ) → ((i : ℕ) → i < length ds → getD ds i 0 ≤ maxDelay) → AllFree (map digits ds)
@@ -37,11 +38,6 @@ rows-free [] h = tt
 rows-free (d ∷ ds) h =
     let l = h 0 (omega arith) in
     (digits-without newline d (omega arith) (omega arith), rows-free ds (λ i m. h (suc i) (omega arith)))
-
-row-of : (ds : List ℕ) (i : ℕ) → i < length ds → getD (map digits ds) i [] ≡ digits (getD ds i 0)
-row-of [] i h = absurd (omega arith)
-row-of (d ∷ ds) zero h = refl
-row-of (d ∷ ds) (suc i) h = row-of ds i (omega arith)
 
 -- a row is at most nine bytes, and the last line at most 13
 rows-short : (ds ls : List ℕ) → ((i : ℕ) → i < length ds → getD ds i 0 ≤ maxDelay)
@@ -93,7 +89,7 @@ module _ (k : Link) (ds : List ℕ) (g : GoodTable k ds) where
   two-line = text-line 1 (pairLine k) (omega arith) refl
 
   pub row-there : (i : ℕ) → i < length ds → getD (tableLines k ds) (suc (suc i)) [] ≡ digits (getD ds i 0)
-  row-there i h = List·getD-append (map digits ds) (lastLine (length ds) ∷ []) [] i (omega (arith, length-map ds digits)) ∙ row-of ds i h
+  row-there i h = List·getD-append (map digits ds) (lastLine (length ds) ∷ []) [] i (omega (arith, length-map ds digits)) ∙ getD-mapped digits ds 0 [] i h
 
   pub last-there : getD (tableLines k ds) (suc (suc (length ds))) [] ≡ lastLine (length ds)
   last-there = getD-at (map digits ds) (lastLine (length ds)) [] [] (length ds) (length-map ds digits)
@@ -107,7 +103,7 @@ module _ (k : Link) (ds : List ℕ) (g : GoodTable k ds) where
   link-fine : first (linkFaults k) ≡ Fine
   link-fine = front-fine (linkFaults k) (rowFaults ds) (sym (fine-table k ds g)) .0
 
-  pub text-right : Right (textOf k ds) (length ds)
+  text-right : Right (textOf k ds) (length ds)
   text-right =
       record {
         whole = λ j l. ended-at (tableLines k ds) lines-free j (omega (arith, line-count));
@@ -162,7 +158,7 @@ module _ (k : Link) (ds : List ℕ) (g : GoodTable k ds) where
       )
 
   -- 6 bytes, at most 18, at most 9 for each row, at most 13
-  pub text-short : length (textOf k ds) ≤ maxText
+  text-short : length (textOf k ds) ≤ maxText
   unfolding glue pairLine lastLine
   text-short =
       omega (

@@ -3,21 +3,21 @@ use mathlib.Core.Path.{_≡_, refl, ap, _∙_}
 use mathlib.Core.Bool.{true}
 use mathlib.Core.List.{List, append-assoc}
 use Prim.Native.Nat.{ℕ, _+_, _-_, _≤_, zero, suc, _<_}
+use native.Mathlib.Numerals.{add-one}
 use native.Mathlib.Omega.{arith}
 use lib.ListN.{length, take, drop, getD, set, length-append, length-set}
+use lib.Seq.{drop-cons, set-at}
 use Rattle.ground.specs.Judging.{first}
 use Rattle.ground.specs.Lent.{onFront}
 use Rattle.ground.specs.declared.Judged.the-variants.{Fine}
 use Rattle.text.specs.Bytes.{newline, seek}
 use Rattle.text.specs.Lines.{begin, line}
 use Rattle.text.specs.Faults.{isPair, textFaults, rowsOf}
+use Rattle.text.specs.Decimal.{isDecimal, value}
+use Rattle.text.specs.Answer.{delaysOf}
 use Rattle.text.proofs.Lined.{at-line}
 use Rattle.text.proofs.Walk.{ended-low}
 use Rattle.text.proofs.Right.{right}
-use native.Mathlib.Numerals.{add-one}
-use lib.Seq.{drop-cons, set-at}
-use Rattle.text.specs.Decimal.{isDecimal, value}
-use Rattle.text.specs.Answer.{delaysOf}
 
 module _ (x : List ℕ) (e : first (textFaults x) ≡ Fine) (a : ℕ) (h : a ≡ 0 + seek newline (drop 0 x)) where
   second : a + 1 ≡ begin x 1

@@ -4,19 +4,19 @@ use mathlib.Core.Bool.{Bool, true, false, not, _&&_}
 use mathlib.Core.List.{List}
 use mathlib.Core.Logic.{⊎-elim}
 use Prim.Native.Nat.{ℕ, zero, suc, _+_, _-_, _≤_, _<_}
-use native.Mathlib.Omega.{arith}
 use native.Mathlib.Numerals.{add-one}
+use native.Mathlib.Omega.{arith}
 use lib.Dec.{ltb}
 use lib.ListN.{length, drop, length-drop}
 use borrow.Author.Tests.{ltb-true, lt-ltb, not-false}
-use Rattle.text.specs.Limits.{cutLine}
-use Rattle.link.specs.Limits.{maxRows}
 use Rattle.ground.specs.Judging.{first}
 use Rattle.ground.specs.declared.Judged.{Judged}
 use Rattle.ground.specs.declared.Judged.the-variants.{Fine, Fault}
-use Rattle.ground.proofs.Bools.{clash, and-parts, lt-or-ge}
+use Rattle.ground.proofs.Bools.{clash, and-parts, lt-or-ge, never}
 use Rattle.ground.proofs.Minimum.{least-is, least-at}
 use Rattle.ground.proofs.Faults.{passed, fine, front-hit, front-pass}
+use Rattle.link.specs.Limits.{maxRows}
+use Rattle.text.specs.Limits.{cutLine}
 use Rattle.text.specs.declared.Line.{Line}
 use Rattle.text.specs.declared.Line.the-variants.{More, Last, Wrong}
 use Rattle.text.specs.declared.Text.the-variants.{Whole, Refused as Broken}
@@ -25,7 +25,6 @@ use Rattle.text.specs.Lines.{nextLine, begin, endedFrom, line, ended}
 use Rattle.text.specs.Faults.{isLast, ownFaults, lineFaults, linesFaults, rowsOf, textFaults, endOf}
 use Rattle.text.specs.TextAnswer.{textSaid, judging}
 use Rattle.text.specs.Steps.{lineIf, lineSays}
-use Rattle.ground.proofs.Bools.{never}
 use Rattle.text.proofs.GoodLines.{row-parts}
 
 -- what a line's answer tells
@@ -110,7 +109,7 @@ module _ (x : List ℕ) (at k : ℕ) (w : Walked x at k) where
   pub broken : (n p : ℕ) → Wrong n p ≡ lineSays x at k → textSaid (Broken n p) ≡ judging x
   unfolding judging textSaid textFaults linesFaults
   broken n p e =
-      let f = wrong-told _ _ _ n p (told _ e) in
+      let f = wrong-told _ (ltb 1 k && isLast (line x k)) (begin x (suc k)) n p (told _ e) in
       let g : first (linesFaults x (suc k)) ≡ Fault n p = sym
       (front-pass (linesFaults x k) (lineFaults x k) (Fault n p) (w .right) (sym f)) in
       let t = stays x (suc k) (suc (suc (suc (rowsOf x)))) n p (omega (arith, low)) g in

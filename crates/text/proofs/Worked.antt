@@ -17,14 +17,13 @@ use Rattle.text.specs.declared.Text.the-variants.{Whole}
 use Rattle.text.specs.Bytes.{seek, same}
 use Rattle.text.specs.Decimal.{isOther, allDigits, leadingZero, isDecimal, valueFrom}
 use Rattle.text.specs.Lines.{nextLine, begin, lineFrom, endedFrom}
-use Rattle.text.specs.Faults.{firstPart, secondPart, isPair, linkOf, isLast, countPart, placedAt}
-use Rattle.text.specs.Faults.{titleFaults, pairFaults, rowFaults, lastFaults, ownFaults}
-use Rattle.text.specs.Faults.{lineFaults, linesFaults, rowsOf, textFaults, endOf, lateFaults, readFaults}
+use Rattle.text.specs.Faults.{firstPart, secondPart, isPair, linkOf, isLast, countPart, placedAt, titleFaults, pairFaults, rowFaults}
+use Rattle.text.specs.Faults.{lastFaults, ownFaults, lineFaults, linesFaults, rowsOf, textFaults, endOf, lateFaults, readFaults}
 use Rattle.text.specs.Answer.{said, delaysOf, accepted, reading}
 use Rattle.text.specs.TextAnswer.{textSaid, judging}
 use Rattle.text.specs.Meaning.{TableOf, RefusalOf}
-use Rattle.text.proofs.Promises.{no-second, no-second-text, table-or-refusal, accepted-is-the-text, every-table-has-a-text}
-use Rattle.text.proofs.Promises.{one-text, lost-newline, long-text}
+use Rattle.text.proofs.Promises.{no-second, no-second-text, table-or-refusal, accepted-is-the-text, every-table-has-a-text, one-text}
+use Rattle.text.proofs.Promises.{lost-newline, long-text}
 
 -- `pma 1`, `10 2`, `0`, `3`, and then `7`, `end 3`, with a byte 10 behind each but the `3`
 abbrev front : List ℕ
