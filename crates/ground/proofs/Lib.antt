@@ -3,7 +3,9 @@ pub mod Bools
 pub mod Minimum
 pub mod Counting
 pub mod Beginning
+pub mod Lists
 pub mod Filling
 pub mod Adding
 pub mod Faults
+pub mod Only
 pub mod Answers

@@ -11,9 +11,8 @@ use borrow.Author.Tests.{not-true}
 use Rattle.ground.specs.Judging.{outside}
 use Rattle.ground.proofs.Bools.{and-parts, and-both}
 use Rattle.ground.proofs.Minimum.{none-has, some-none}
-use Rattle.ground.proofs.Faults.{inside}
+use Rattle.ground.proofs.Faults.{inside, within}
 use Rattle.text.specs.Decimal.{maxDigits, naught, nine, isOther, allDigits, leadingZero, isDecimal, valueFrom, value}
-use Rattle.ground.proofs.Faults.{within}
 
 abbrev pub Digits : List ℕ → Type 0
 Digits bs = (i : ℕ) → i < length bs → isOther (getD bs i 0) ≡ false

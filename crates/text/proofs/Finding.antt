@@ -4,14 +4,14 @@ use mathlib.Core.Bool.{true, not}
 use mathlib.Core.List.{List, [], _∷_, _++_}
 use Prim.Native.Nat.{ℕ, zero, suc, _+_, _<_}
 use native.Mathlib.Omega.{arith}
-use lib.Dec.{leb, eqb}
-use lib.ListN.{length, getD, take, drop, length-append, take-append-drop, List·getD-append}
-use lib.Seq.{take-append-seam, getD-append-seam, ext-getD}
-use borrow.Author.Tests.{ne-eqb, eq-eqb, eqb-true, le-leb, not-true, not-false}
+use lib.Dec.{eqb}
+use lib.ListN.{length, getD, length-append, List·getD-append}
+use lib.Seq.{getD-append-seam, ext-getD}
+use borrow.Author.Tests.{ne-eqb, eq-eqb, eqb-true, not-true, not-false}
 use Rattle.ground.specs.Least.{some}
 use Rattle.ground.proofs.Bools.{and-parts, and-both}
 use Rattle.ground.proofs.Minimum.{least-is, least-at, some-none, none-has}
-use Rattle.text.specs.Bytes.{seek, same, begins}
+use Rattle.text.specs.Bytes.{seek, same}
 
 -- no byte of l is b
 abbrev pub Without : ℕ → List ℕ → Type 0
@@ -54,15 +54,3 @@ unfolding same
 same-self xs =
     and-both _ _ (eq-eqb (length xs) (length xs) refl)
     (ap not (some-none (λ i. not (eqb (getD xs i 0) (getD xs i 0))) (length xs) (λ i l. ap not (eq-eqb (getD xs i 0) (getD xs i 0) refl))))
-
-pub begins-with : (word l : List ℕ) → begins word l ≡ true → l ≡ word ++ drop (length word) l
-unfolding begins
-begins-with word l e =
-    let w = same-equal word (take (length word) l) (and-parts (leb (length word) (length l)) (same word (take (length word) l)) e .1) in
-    sym (take-append-drop (length word) l) ∙ ap (λ (f : List ℕ). f ++ drop (length word) l) (sym w)
-
-pub begins-self : (word l : List ℕ) → begins word (word ++ l) ≡ true
-unfolding begins
-begins-self word l =
-    and-both _ _ (le-leb (length word) (length (word ++ l)) (omega (arith, length-append word l)))
-    (rw (take-append-seam word l) (same-self word))

@@ -7,15 +7,16 @@ use native.Mathlib.Numerals.{add-one}
 use native.Mathlib.Omega.{arith}
 use lib.ListN.{length, getD, take, drop}
 use lib.Seq.{split-at, take-append-seam, drop-append-add, drop-append-seam}
-use Rattle.link.specs.declared.Link.{Link}
 use Rattle.ground.proofs.Bools.{is-false, and-both}
+use Rattle.ground.proofs.Beginning.{begins-with, begins-self}
+use Rattle.link.specs.declared.Link.{Link}
 use Rattle.text.specs.Bytes.{newline, space, seek, endWord}
 use Rattle.text.specs.Decimal.{naught, isDecimal, value}
 use Rattle.text.specs.Faults.{firstPart, secondPart, isPair, linkOf, isLast, countPart}
 use Rattle.text.specs.Writing.{digits, pairLine, lastLine}
 use Rattle.text.proofs.Decimals.{digit, decimal}
 use Rattle.text.proofs.Spelling.{digits-decimal, digits-value, digits-all, decimal-digits}
-use Rattle.text.proofs.Finding.{Without, without-append, without-each, seek-first, found, begins-with, begins-self}
+use Rattle.text.proofs.Finding.{Without, without-append, without-each, seek-first, found}
 use Rattle.text.proofs.LineForms.{pair-parts}
 
 -- digits have no space and no byte 10 among them

@@ -7,20 +7,18 @@ use Prim.Native.Nat.{ℕ, _≤_, _<_}
 use native.Mathlib.Omega.{arith}
 use lib.Dec.{ltb, leb, eqb}
 use borrow.Author.Tests.{ltb-false, leb-false, eqb-false, eqb-true, not-false, le-ltb, lt-leb, ne-eqb, eq-eqb}
-use Rattle.text.specs.Limits.{badLineOne, badLine, badCount}
-use Rattle.link.specs.Limits.{maxRows, maxDelay, badDelay, badRows}
 use Rattle.ground.specs.Judging.{first}
-use Rattle.link.specs.Refusal.{linkFaults}
 use Rattle.ground.specs.declared.Judged.{Judged}
 use Rattle.ground.specs.declared.Judged.the-variants.{Fine, Fault}
-use Rattle.ground.proofs.Bools.{lt-or-ge}
+use Rattle.ground.proofs.Bools.{lt-or-ge, never}
 use Rattle.ground.proofs.Faults.{pass, passed, fine}
+use Rattle.link.specs.Limits.{maxRows, maxDelay, badDelay, badRows}
+use Rattle.link.specs.Refusal.{linkFaults}
+use Rattle.text.specs.Limits.{badLineOne, badLine, badCount}
 use Rattle.text.specs.Bytes.{same, titleWord}
 use Rattle.text.specs.Decimal.{isDecimal, value}
-use Rattle.text.specs.Faults.{isPair, linkOf, isLast, countPart, titleFaults, pairFaults, rowFaults}
-use Rattle.text.specs.Faults.{lastFaults}
+use Rattle.text.specs.Faults.{isPair, linkOf, isLast, countPart, titleFaults, pairFaults, rowFaults, lastFaults}
 use Rattle.text.proofs.LineForms.{moved, placed}
-use Rattle.ground.proofs.Bools.{never}
 
 -- a row, and the last line after n rows
 pub record GoodRow (l : List ℕ) : Type 0 where

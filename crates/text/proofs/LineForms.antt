@@ -2,26 +2,26 @@
 use mathlib.Core.Path.{_≡_, refl, sym, ap, _∙_}
 use mathlib.Core.Bool.{Bool, true, false, not, cond, and-false}
 use mathlib.Core.List.{List, [], _∷_}
+use mathlib.Core.Logic.{⊎-elim}
 use Prim.Native.Nat.{ℕ, zero, suc, _+_, _-_, _≤_, _<_}
 use native.Mathlib.Numerals.{add-one}
 use native.Mathlib.Omega.{arith}
-use lib.Dec.{leb, eqb}
+use lib.Dec.{eqb}
 use lib.ListN.{length, take, drop, drop-of-length-le}
-use borrow.Author.Tests.{leb-true}
-use Rattle.text.specs.Limits.{badLine}
 use Rattle.ground.specs.Judging.{Cause, first}
-use Rattle.link.specs.Refusal.{linkFaults}
-use Rattle.link.specs.declared.Link.{Link}
 use Rattle.ground.specs.declared.Judged.{Judged}
 use Rattle.ground.specs.declared.Judged.the-variants.{Fine, Fault}
 use Rattle.ground.proofs.Bools.{clash, and-parts, lt-or-ge}
+use Rattle.ground.proofs.Beginning.{begins-with}
 use Rattle.ground.proofs.Faults.{below, pass}
-use mathlib.Core.Logic.{⊎-elim}
-use Rattle.text.specs.Bytes.{space, seek, same, begins, endWord}
-use Rattle.text.specs.Decimal.{maxDigits, isDecimal, value}
 use Rattle.ground.proofs.Filling.{tail-part}
-use Rattle.text.specs.Faults.{firstPart, secondPart, isPair, linkOf, isLast, countPart, placedAt}
-use Rattle.text.specs.Faults.{titleFaults, pairFaults, lastFaults, rowFaults, ownFaults}
+use Rattle.link.specs.Refusal.{linkFaults}
+use Rattle.link.specs.declared.Link.{Link}
+use Rattle.text.specs.Limits.{badLine}
+use Rattle.text.specs.Bytes.{space, seek, endWord}
+use Rattle.text.specs.Decimal.{maxDigits, isDecimal, value}
+use Rattle.text.specs.Faults.{firstPart, secondPart, isPair, linkOf, isLast, countPart, placedAt, titleFaults, pairFaults, lastFaults}
+use Rattle.text.specs.Faults.{rowFaults, ownFaults}
 
 no-number : isDecimal [] ≡ false
 unfolding isDecimal
@@ -40,11 +40,11 @@ pair-parts l e =
     (w .0, w .1, ⊎-elim (λ h. h) (λ h. clash e (no-space l h)) (lt-or-ge (seek space l) (length l)))
 
 pub last-long : (l : List ℕ) → isLast l ≡ true → 4 ≤ length l
-unfolding isLast begins
-last-long l e = leb-true _ _ (and-parts (leb 4 (length l)) (same endWord (take 4 l)) e .0)
+unfolding isLast
+last-long l e = omega (arith, ap (λ (s : List ℕ). length s) (begins-with endWord l e))
 
 -- its number, as the code takes it
-pub count-part : (l : List ℕ) → take (length l - 4) (drop 4 l) ≡ countPart l
+count-part : (l : List ℕ) → take (length l - 4) (drop 4 l) ≡ countPart l
 unfolding countPart
 count-part l = tail-part l 4
 

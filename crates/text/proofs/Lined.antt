@@ -7,16 +7,16 @@ use native.Mathlib.Omega.{arith}
 use lib.Dec.{ltb}
 use lib.ListN.{length, take, drop, length-drop}
 use borrow.Author.Tests.{lt-ltb, le-ltb}
-use Rattle.text.specs.Limits.{cutLine}
 use Rattle.ground.specs.Judging.{first}
 use Rattle.ground.specs.declared.Judged.{Judged}
 use Rattle.ground.proofs.Faults.{hit, pass}
+use Rattle.ground.proofs.Filling.{middle-part}
+use Rattle.text.specs.Limits.{cutLine}
 use Rattle.text.specs.declared.Line.the-variants.{Wrong}
 use Rattle.text.specs.Bytes.{newline, seek}
 use Rattle.text.specs.Lines.{nextLine, begin, lineFrom, endedFrom, line}
 use Rattle.text.specs.Faults.{isLast, ownFaults}
 use Rattle.text.specs.Steps.{lineIf, lineSays}
-use Rattle.ground.proofs.Filling.{middle-part}
 
 module _ (x : List ℕ) (at : ℕ) where
   whole-line : at + seek newline (drop at x) < length x → endedFrom x at ≡ true

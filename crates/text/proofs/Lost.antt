@@ -5,7 +5,8 @@ use mathlib.Core.Logic.{_⊎_, inl, inr, ⊎-elim}
 use Prim.Native.Nat.{ℕ, suc, _+_, _-_, _≤_, _<_, _^_}
 use native.Mathlib.Omega.{arith}
 use lib.ListN.{length, getD, length-append, List·getD-append}
-use lib.Seq.{getD-append-add}
+use Rattle.ground.proofs.Bools.{never}
+use Rattle.ground.proofs.Lists.{getD-behind}
 use Rattle.link.specs.Range.{GoodTable}
 use Rattle.link.specs.declared.Link.{Link}
 use Rattle.text.specs.Bytes.{newline}
@@ -18,7 +19,6 @@ use Rattle.text.proofs.Finding.{without-append}
 use Rattle.text.proofs.Gluing.{Free, AllFree, all-free-append}
 use Rattle.text.proofs.Forms.{count-value}
 use Rattle.text.proofs.Texts.{count-low, delay-low, lines-free, line-count, row-there, last-there}
-use Rattle.ground.proofs.Bools.{never}
 
 -- two ways to cut one list at a byte 10, the first of them at the first one
 meet : (l r a b : List ℕ) → Free l → l ++ newline ∷ r ≡ a ++ newline ∷ b → ((a ≡ l) × (b ≡ r))
@@ -45,7 +45,7 @@ unglue (m ∷ ms) (p ∷ ps) l f g h e =
     (meet m (glue ms) p (glue ps ++ l) (f .0) (e ∙ append-assoc p (newline ∷ glue ps) l))
 
 -- the line at whose end a byte 10 stands
-pub record Cut (ls : List (List ℕ)) (a b : List ℕ) : Type 0 where
+record Cut (ls : List (List ℕ)) (a b : List ℕ) : Type 0 where
   pub before : List (List ℕ)
   pub here : List ℕ
   pub behind : List (List ℕ)
@@ -85,8 +85,7 @@ joined (p ∷ ps) l m qs =
 
 -- the line at a place behind those before it
 at-place : (ls ps qs : List (List ℕ)) (i j : ℕ) (l : List ℕ) → ls ≡ ps ++ qs → i ≡ length ps + j → getD ls i [] ≡ l → getD qs j [] ≡ l
-at-place ls ps qs i j l e h t = sym (getD-append-add ps qs j []) ∙ ap (λ (n : ℕ). getD (ps ++ qs) n []) (sym h)
-    ∙ ap (λ (t : List (List ℕ)). getD t i []) (sym e) ∙ t
+at-place ls ps qs i j l e h t = sym (getD-behind ps qs i j [] h) ∙ ap (λ (m : List (List ℕ)). getD m i []) (sym e) ∙ t
 
 -- a last line begins with `e`, and tells its number
 starts-with-e : (n : ℕ) (l : List ℕ) → l ≡ lastLine n → getD l 0 0 ≡ 101

@@ -1,59 +1,84 @@
--- What the reader of the text table promises, over the definition that its contract cites. Assumes nothing.
+-- What the reader of the text table promises, at its contract: on the text x it answers r, and the lent list, which was `old`, is left
+-- as `new`. Assumes nothing.
 use mathlib.Core.Path.{_≡_, refl, sym, ap, _∙_}
 use mathlib.Core.List.{List, _∷_, _++_}
-use mathlib.Core.Logic.{_⊎_, inl, inr}
 use Prim.Native.Nat.{ℕ, _≤_, _<_}
-use lib.ListN.{length, drop}
-use Rattle.text.specs.Limits.{maxText, longText}
+use lib.ListN.{length, take}
+use Rattle.ground.specs.Judging.{first}
+use Rattle.ground.specs.Lent.{onFront}
+use Rattle.ground.specs.Protocol.{gives}
+use Rattle.ground.specs.declared.Judged.{Judged}
+use Rattle.ground.specs.declared.Judged.the-variants.{Fine, Fault}
+use Rattle.ground.proofs.Answers.{no-second as one-said, no-second-outcome}
 use Rattle.link.specs.Range.{GoodTable}
 use Rattle.link.specs.declared.Link.{Link}
-use Rattle.ground.proofs.Answers.{no-second as one-said}
 use Rattle.text.specs.declared.Read.{Read}
+use Rattle.text.specs.declared.Read.the-variants.{Table, Refused}
+use Rattle.text.specs.declared.Text.{Text}
 use Rattle.text.specs.Bytes.{newline}
-use Rattle.text.specs.Faults.{rowsOf}
-use Rattle.text.specs.Reading.{Verdict, table, refusal, said, says, gives, tableLink, delaysOf, reading}
+use Rattle.text.specs.Faults.{rowsOf, readFaults}
+use Rattle.text.specs.Answer.{said, tableLink, reading}
+use Rattle.text.specs.TextAnswer.{textSaid, judging}
 use Rattle.text.specs.Writing.{textOf}
-use Rattle.text.proofs.Answers.{Meets, long}
+use Rattle.text.specs.Meaning.{TableOf, RefusalOf, Means}
+use Rattle.text.proofs.Saying.{unsaid, again, textUnsaid, text-again}
+use Rattle.text.proofs.Answers.{fault-said, fine-said, long}
 use Rattle.text.proofs.Texts.{text-accepted}
-use Rattle.text.proofs.Taken.{AcceptedAs, accepted-text, same-text}
-use Rattle.text.proofs.Places.{RefusedWith, refused-with}
+use Rattle.text.proofs.Taken.{taken-table}
+use Rattle.text.proofs.Places.{in-text}
 use Rattle.text.proofs.Lost.{lost}
-use Rattle.text.proofs.Saying.{unsaid, again, not-a-table, same-outcome}
 
--- "Show that no second answer satisfies it": no second answer of `read_table` and no second content of the list meets its contract.
-pub no-second : (x old : List ℕ) (r s : Read) (new other : List ℕ) → Meets x old r new → Meets x old s other → (r ≡ s) × (new ≡ other)
-no-second x old r s new other a b = (one-said said unsaid again (a .0) (b .0), a .1 ∙ sym (b .1))
+-- "Show that no second answer satisfies it": no second answer of `read_table`, nor a second content of the list
+pub no-second : (x old : List ℕ) (r s : Read) (new other : List ℕ) → gives (said r) new ≡ reading x old
+    → gives (said s) other ≡ reading x old → (r ≡ s) × (new ≡ other)
+no-second x old r s new other = no-second-outcome said unsaid again
 
--- Each good table has a text, and it is accepted as that table wherever the lent list has room for its rows.
-pub every-table-has-a-text : (k : Link) (ds old : List ℕ) → GoodTable k ds → length ds ≤ length old
-    → reading (textOf k ds) old ≡ gives (says table 0 0 (k .period) (k .size) (length ds)) (ds ++ drop (length ds) old)
-every-table-has-a-text = text-accepted
+-- and of `judge_text`
+pub no-second-text : (x : List ℕ) (r s : Text) → textSaid r ≡ judging x → textSaid s ≡ judging x → r ≡ s
+no-second-text x r s = one-said textSaid textUnsaid text-again
+
+-- Any bytes, of any length, end in a table, whose text they are, or in a refusal of 1 to 11 at a byte of the text or its end.
+pub table-or-refusal : (x old : List ℕ) (r : Read) (new : List ℕ) → gives (said r) new ≡ reading x old → Means x old r new
+table-or-refusal x old r new e = go (first (readFaults x (length old))) refl
+  where
+    go : (j : Judged) → first (readFaults x (length old)) ≡ j → Means x old r new
+    go Fine f =
+        let w = no-second x old r (Table (tableLink x) (rowsOf x)) new _ e (fine-said x old f) in
+        rw (w .0, w .1) (taken-table x old f)
+    go (Fault n p) f =
+        let w = no-second x old r (Refused n p) new old e (fault-said x old n p f) in
+        rw (w .0, w .1) (in-text x old (length old) .fault n p f)
 
 -- Nothing else is accepted: an accepted text is the text of the good table that is answered.
-pub accepted-is-the-text : (x old : List ℕ) → reading x old .says .verdict ≡ table → (k : Link) × (ds : List ℕ) × AcceptedAs x old k ds
-accepted-is-the-text x old e = (tableLink x, delaysOf x (rowsOf x), accepted-text x old e)
+pub accepted-is-the-text : (x old : List ℕ) (k : Link) (n : ℕ) (new : List ℕ) → gives (said (Table k n)) new ≡ reading x old
+    → TableOf x old k n new
+accepted-is-the-text x old k n new = table-or-refusal x old (Table k n) new
 
--- So each table has one text only.
-pub one-text : (x y old : List ℕ) → reading x old .says .verdict ≡ table → reading x old ≡ reading y old → x ≡ y
-one-text x y old e f = same-text (accepted-text x old e) (accepted-text y old (ap (λ o. o .says .verdict) (sym f) ∙ e)) f
+-- Each good table has a text, and it is accepted as that table wherever the lent list has room for its rows.
+pub every-table-has-a-text : (k : Link) (ds old : List ℕ) (r : Read) (new : List ℕ) → GoodTable k ds → length ds ≤ length old
+    → gives (said r) new ≡ reading (textOf k ds) old → (r ≡ Table k (length ds)) × (new ≡ onFront ds old)
+every-table-has-a-text k ds old r new g h e = no-second (textOf k ds) old r _ new _ e (text-accepted k ds old g h)
 
--- Any bytes, of any length: the text of a good table, or a refusal of 1 to 11 at a byte of the text or its end, with the list as it was.
-pub table-or-refusal : (x old : List ℕ) → ((k : Link) × (ds : List ℕ) × AcceptedAs x old k ds) ⊎ ((n : ℕ) × (p : ℕ) × RefusedWith x old n p)
-table-or-refusal x old = go (reading x old .says .verdict) refl
-  where
-    go : (v : Verdict) → reading x old .says .verdict ≡ v
-        → ((k : Link) × (ds : List ℕ) × AcceptedAs x old k ds) ⊎ ((n : ℕ) × (p : ℕ) × RefusedWith x old n p)
-    go table e = inl (accepted-is-the-text x old e)
-    go refusal e = inr (refused-with x old e)
+-- So each table has one text only: two texts that are answered by the same table are the same text.
+pub one-text : (x y old lent : List ℕ) (k : Link) (n : ℕ) (new left : List ℕ) → gives (said (Table k n)) new ≡ reading x old
+    → gives (said (Table k n)) left ≡ reading y lent → take n new ≡ take n left → x ≡ y
+one-text x y old lent k n new left e f t =
+    accepted-is-the-text x old k n new e .text ∙ ap (textOf k) t ∙ sym (accepted-is-the-text y lent k n left f .text)
 
 -- Two rows are never joined into one: a text that has lost one byte 10, wherever it stood, is refused, whatever lists are lent.
-pub lost-newline : (a b old other : List ℕ) → reading (a ++ newline ∷ b) old .says .verdict ≡ table
-    → reading (a ++ b) other .says .verdict ≡ refusal
-lost-newline a b old other e =
-    let x = accepted-text (a ++ newline ∷ b) old e in
-    not-a-table _ (λ f. let y = accepted-text (a ++ b) other f in lost _ _ _ _ (x .good) (y .good) a b (sym (x .text)) (sym (y .text)))
+pub lost-newline : (a b old lent : List ℕ) (k : Link) (n : ℕ) (new : List ℕ) (s : Read) (left : List ℕ)
+    → gives (said (Table k n)) new ≡ reading (a ++ newline ∷ b) old → gives (said s) left ≡ reading (a ++ b) lent
+    → (m : ℕ) × (p : ℕ) × (s ≡ Refused m p) × RefusalOf (a ++ b) lent m p left
+lost-newline a b old lent k n new s left e f = go s (table-or-refusal (a ++ b) lent s left f)
+  where
+    x : TableOf (a ++ newline ∷ b) old k n new
+    x = accepted-is-the-text (a ++ newline ∷ b) old k n new e
+
+    go : (s : Read) → Means (a ++ b) lent s left → (m : ℕ) × (p : ℕ) × (s ≡ Refused m p) × RefusalOf (a ++ b) lent m p left
+    go (Table l m) y = absurd (lost _ _ _ _ (x .good) (y .good) a b (sym (x .text)) (sym (y .text)))
+    go (Refused m p) y = (m, p, refl, y)
 
 -- "A text above 1,024 bytes is refused with 1", at 0, whatever its bytes.
-pub long-text : (x old : List ℕ) → maxText < length x → reading x old ≡ gives (says refusal longText 0 0 0 0) old
-unfolding said
-long-text x old h = let m = long x old h in same-outcome (reading x old) _ old (m .0) (m .1)
+pub long-text : (x old : List ℕ) (r : Read) (new : List ℕ) → 1024 < length x → gives (said r) new ≡ reading x old
+    → (r ≡ Refused 1 0) × (new ≡ old)
+long-text x old r new h e = no-second x old r _ new _ e (long x old h)

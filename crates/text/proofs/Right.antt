@@ -5,20 +5,19 @@ use mathlib.Core.List.{List}
 use mathlib.Core.Logic.{⊎-elim}
 use Prim.Native.Nat.{ℕ, zero, suc, _≤_, _<_}
 use native.Mathlib.Omega.{arith}
-use Rattle.text.specs.Limits.{cutLine}
-use Rattle.link.specs.Limits.{maxRows}
 use Rattle.ground.specs.Judging.{first}
 use Rattle.ground.specs.declared.Judged.the-variants.{Fine}
 use Rattle.ground.proofs.Bools.{lt-or-ge}
 use Rattle.ground.proofs.Minimum.{least-is, least-at}
 use Rattle.ground.proofs.Faults.{pass, fine, front-pass, front-fine}
+use Rattle.link.specs.Limits.{maxRows}
+use Rattle.text.specs.Limits.{cutLine}
 use Rattle.text.specs.Bytes.{same, titleWord}
 use Rattle.text.specs.Lines.{begin, line, ended}
-use Rattle.text.specs.Faults.{isLast}
-use Rattle.text.specs.Faults.{ownFaults, lineFaults, linesFaults, rowsOf, textFaults}
+use Rattle.text.specs.Faults.{isLast, ownFaults, lineFaults, linesFaults, rowsOf, textFaults}
 use Rattle.text.proofs.Walk.{not-cut, own-fine}
-use Rattle.text.proofs.GoodLines.{GoodRow, GoodLast, GoodPair, row-parts, row-fine, last-parts}
-use Rattle.text.proofs.GoodLines.{last-fine, pair-parts, pair-fine, title-parts, title-fine}
+use Rattle.text.proofs.GoodLines.{GoodRow, GoodLast, GoodPair, row-parts, row-fine, last-parts, last-fine, pair-parts, pair-fine}
+use Rattle.text.proofs.GoodLines.{title-parts, title-fine}
 
 -- a text of n rows with nothing wrong
 pub record Right (x : List ℕ) (n : ℕ) : Type 0 where

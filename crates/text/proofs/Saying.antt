@@ -1,26 +1,32 @@
--- An answer and its paper form: one gives the other back. Assumes nothing.
-use mathlib.Core.Path.{_≡_, refl, sym, ap, _∙_}
-use mathlib.Core.List.{List}
-use Prim.Native.Nat.{ℕ}
+-- The two answers and their paper forms: each form gives its answer back. Assumes nothing.
+use mathlib.Core.Path.{_≡_, refl}
 use Rattle.text.specs.declared.Read.{Read}
 use Rattle.text.specs.declared.Read.the-variants.{Table, Refused}
-use Rattle.text.specs.Reading.{Verdict, table, refusal, Said, said, Outcome, gives}
-
-abbrev fromVerdict : Verdict → Said → Read
-fromVerdict table s = Table (s .period) (s .size) (s .rows)
-fromVerdict refusal s = Refused (s .number) (s .place)
+use Rattle.text.specs.declared.Text.{Text}
+use Rattle.text.specs.declared.Text.the-variants.{Whole, Refused as Broken}
+use Rattle.text.specs.Answer.{Verdict, table, refusal, Said, said}
+use Rattle.text.specs.TextAnswer.{TextVerdict, whole, refusal as breach, TextSaid, textSaid}
 
 abbrev pub unsaid : Said → Read
-unsaid s = fromVerdict (s .verdict) s
+unsaid s = back (s .verdict) s
+  where
+    back : Verdict → Said → Read
+    back table s = Table (s .link) (s .rows)
+    back refusal s = Refused (s .number) (s .place)
 
 pub again : (r : Read) → unsaid (said r) ≡ r
 unfolding said
-again (Table p s n) = refl
+again (Table k n) = refl
 again (Refused n p) = refl
 
-pub not-a-table : (v : Verdict) → (v ≡ table → ⊥) → v ≡ refusal
-not-a-table table h = absurd (h refl)
-not-a-table refusal h = refl
+abbrev pub textUnsaid : TextSaid → Text
+textUnsaid s = back (s .verdict) s
+  where
+    back : TextVerdict → TextSaid → Text
+    back whole s = Whole (s .rows) (s .end)
+    back breach s = Broken (s .number) (s .place)
 
-pub same-outcome : (o : Outcome) (s : Said) (l : List ℕ) → s ≡ o .says → l ≡ o .leaves → o ≡ gives s l
-same-outcome o s l e f = ap (λ (t : Said). gives t (o .leaves)) (sym e) ∙ ap (gives s) (sym f)
+pub text-again : (r : Text) → textUnsaid (textSaid r) ≡ r
+unfolding textSaid
+text-again (Whole n e) = refl
+text-again (Broken n p) = refl

@@ -11,6 +11,7 @@ use lib.ListN.{length, getD, length-append, List·getD-append}
 use lib.Seq.{getD-append-seam}
 use borrow.Author.Tests.{ltb-true, ltb-false, lt-ltb, le-ltb, ne-eqb, eqb-false}
 use Rattle.ground.proofs.Bools.{lt-or-ge}
+use Rattle.ground.proofs.Lists.{last-one}
 use Rattle.ground.proofs.Faults.{inside}
 use Rattle.text.specs.Decimal.{maxDigits, naught, nine, isOther, leadingZero, isDecimal, valueFrom, value}
 use Rattle.text.specs.Writing.{digitsIn, digits}
@@ -96,11 +97,6 @@ module _ (n : ℕ) (h : n < 10 ^ 8) where
   digits-all = spells 7 n h .spelt .digits
 
 -- and back
-snoc : (bs : List ℕ) → 1 ≤ length bs → (xs : List ℕ) × (b : ℕ) × (bs ≡ xs ++ b ∷ [])
-snoc [] h = absurd (omega arith)
-snoc (b ∷ []) h = ([], b, refl)
-snoc (b ∷ c ∷ bs) h = let r = snoc (c ∷ bs) (omega arith) in (b ∷ r .0, r .1, ap (λ (l : List ℕ). b ∷ l) (r .2))
-
 value-grows : (n : ℕ) (bs : List ℕ) → n ≤ valueFrom n bs
 unfolding valueFrom
 value-grows n [] = omega arith
@@ -115,17 +111,17 @@ front-digit bs d h e =
     ⊎-elim (λ l. l) (λ g. absurd (n (omega arith))) (lt-or-ge naught (getD bs 0 0))
 
 -- a digit, or one behind a number that is not 0
-last-one : (k b : ℕ) → isOther b ≡ false → digitsIn (suc k) (value (b ∷ [])) ≡ b ∷ []
+one-again : (k b : ℕ) → isOther b ≡ false → digitsIn (suc k) (value (b ∷ [])) ≡ b ∷ []
 unfolding digitsIn valueFrom
-last-one k b d =
+one-again k b d =
     let w = digit b d in
     let e : naught + (0 * 10 + (b - naught)) ≡ b = omega arith in
     rw (lt-ltb (0 * 10 + (b - naught)) 10 (omega arith), e)
 
-last-more : (k : ℕ) (xs : List ℕ) (b : ℕ) → isOther b ≡ false → 1 ≤ value xs → digitsIn k (value xs) ≡ xs
+more-again : (k : ℕ) (xs : List ℕ) (b : ℕ) → isOther b ≡ false → 1 ≤ value xs → digitsIn k (value xs) ≡ xs
     → digitsIn (suc k) (value (xs ++ b ∷ [])) ≡ xs ++ b ∷ []
 unfolding digitsIn
-last-more k xs b d v e =
+more-again k xs b d v e =
     let w = digit b d in
     let n : value (xs ++ b ∷ []) ≡ value xs * 10 + (b - naught) = value-from-more 0 xs b in
     let q : (value xs * 10 + (b - naught)) / 10 ≡ value xs = omega arith in
@@ -135,12 +131,12 @@ last-more k xs b d v e =
 again-if : (k : ℕ) → ((ys : List ℕ) → Spelt k ys → digitsIn k (value ys) ≡ ys) → (xs : List ℕ) (b : ℕ)
     → Spelt (suc k) (xs ++ b ∷ []) → digitsIn (suc k) (value (xs ++ b ∷ [])) ≡ xs ++ b ∷ []
 unfolding valueFrom
-again-if k ih [] b s = last-one k b (s .digits 0 (omega arith))
+again-if k ih [] b s = one-again k b (s .digits 0 (omega arith))
 again-if k ih (x ∷ xs) b s =
     let n = length-append (x ∷ xs) (b ∷ []) in
     let f : naught < x = front-digit (x ∷ xs ++ b ∷ []) (s .digits) (omega arith) (s .led) in
     let last : isOther b ≡ false = ap isOther (sym (getD-append-seam (x ∷ xs) b [] 0)) ∙ s .digits (length (x ∷ xs)) (omega arith) in
-    last-more k (x ∷ xs) b last (omega (arith, value-grows (0 * 10 + (x - naught)) xs))
+    more-again k (x ∷ xs) b last (omega (arith, value-grows (0 * 10 + (x - naught)) xs))
     (ih (x ∷ xs) (record {
       some-digit = omega arith;
       short = omega (arith, s .short);
@@ -150,7 +146,7 @@ again-if k ih (x ∷ xs) b s =
 
 again : (k : ℕ) (bs : List ℕ) → Spelt k bs → digitsIn k (value bs) ≡ bs
 again zero bs s = absurd (omega (arith, s .some-digit, s .short))
-again (suc k) bs s = let w = snoc bs (s .some-digit) in rw (w .2) (again-if k (again k) (w .0) (w .1) (rw (w .2) at s))
+again (suc k) bs s = let w = last-one bs (s .some-digit) in rw (w .2) (again-if k (again k) (w .0) (w .1) (rw (w .2) at s))
 
 -- a decimal number is spelt as its value is
 pub decimal-digits : (bs : List ℕ) → isDecimal bs ≡ true → digits (value bs) ≡ bs

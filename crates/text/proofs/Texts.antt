@@ -3,29 +3,34 @@ use mathlib.Core.Path.{_≡_, refl, sym, ap, _∙_}
 use mathlib.Core.List.{List, [], _∷_, _++_, map}
 use Prim.Native.Nat.{ℕ, zero, suc, _+_, _*_, _≤_, _<_, _^_}
 use native.Mathlib.Omega.{arith}
-use lib.ListN.{length, getD, take, drop, length-append, length-map, List·getD-append}
+use lib.ListN.{length, getD, take, length-append, length-map, List·getD-append}
 use lib.Seq.{take-suc, take-length, getD-at}
 use borrow.Author.Tests.{le-ltb}
-use Rattle.text.specs.Limits.{maxText, longText, bytesAfter}
+use Rattle.ground.specs.Judging.{first}
+use Rattle.ground.specs.Lent.{onFront}
+use Rattle.ground.specs.Protocol.{gives, keeping}
+use Rattle.ground.specs.declared.Judged.the-variants.{Fine}
+use Rattle.ground.proofs.Answers.{goes-on}
+use Rattle.ground.proofs.Lists.{getD-mapped}
+use Rattle.ground.proofs.Faults.{pass, fine, front-pass, front-fine}
 use Rattle.link.specs.Limits.{maxDelay, badLength}
 use Rattle.link.specs.Range.{GoodTable}
-use Rattle.ground.specs.Judging.{first}
 use Rattle.link.specs.Refusal.{linkFaults, rowFaults}
 use Rattle.link.specs.declared.Link.{Link}
-use Rattle.ground.specs.declared.Judged.the-variants.{Fine}
 use Rattle.link.proofs.Accepted.{fine-table}
-use Rattle.ground.proofs.Faults.{pass, fine, front-pass, front-fine}
+use Rattle.text.specs.Limits.{maxText, longText, bytesAfter}
+use Rattle.text.specs.declared.Read.the-variants.{Table}
 use Rattle.text.specs.Bytes.{newline, space, same, titleWord}
 use Rattle.text.specs.Decimal.{value}
 use Rattle.text.specs.Lines.{line}
 use Rattle.text.specs.Faults.{rowsOf, endOf, lateFaults, readFaults}
-use Rattle.text.specs.Reading.{table, says, gives, delaysOf, accepted, reading}
+use Rattle.text.specs.Answer.{refusing, said, delaysOf, accepted, reading}
 use Rattle.text.specs.Writing.{digits, glue, pairLine, lastLine, tableLines, textOf}
 use Rattle.text.proofs.Spelling.{digits-decimal, digits-value, digits-short}
 use Rattle.text.proofs.Finding.{same-self}
 use Rattle.text.proofs.Gluing.{AllFree, all-free-append, line-at, ended-at, end-at}
-use Rattle.text.proofs.Forms.{digits-without, pair-is, link-is, pair-free, last-is}
-use Rattle.text.proofs.Forms.{count-decimal, count-value, last-free, row-not-last}
+use Rattle.text.proofs.Forms.{digits-without, pair-is, link-is, pair-free, last-is, count-decimal, count-value, last-free}
+use Rattle.text.proofs.Forms.{row-not-last}
 use Rattle.text.proofs.Right.{Right, rows-right, right-fine}
 
 rows-free : (ds : List ℕ) → ((i : ℕ) → i < length ds → getD ds i 0 ≤ maxDelay) → AllFree (map digits ds)
@@ -33,11 +38,6 @@ rows-free [] h = tt
 rows-free (d ∷ ds) h =
     let l = h 0 (omega arith) in
     (digits-without newline d (omega arith) (omega arith), rows-free ds (λ i m. h (suc i) (omega arith)))
-
-row-of : (ds : List ℕ) (i : ℕ) → i < length ds → getD (map digits ds) i [] ≡ digits (getD ds i 0)
-row-of [] i h = absurd (omega arith)
-row-of (d ∷ ds) zero h = refl
-row-of (d ∷ ds) (suc i) h = row-of ds i (omega arith)
 
 -- a row is at most nine bytes, and the last line at most 13
 rows-short : (ds ls : List ℕ) → ((i : ℕ) → i < length ds → getD ds i 0 ≤ maxDelay)
@@ -89,7 +89,7 @@ module _ (k : Link) (ds : List ℕ) (g : GoodTable k ds) where
   two-line = text-line 1 (pairLine k) (omega arith) refl
 
   pub row-there : (i : ℕ) → i < length ds → getD (tableLines k ds) (suc (suc i)) [] ≡ digits (getD ds i 0)
-  row-there i h = List·getD-append (map digits ds) (lastLine (length ds) ∷ []) [] i (omega (arith, length-map ds digits)) ∙ row-of ds i h
+  row-there i h = List·getD-append (map digits ds) (lastLine (length ds) ∷ []) [] i (omega (arith, length-map ds digits)) ∙ getD-mapped digits ds 0 [] i h
 
   pub last-there : getD (tableLines k ds) (suc (suc (length ds))) [] ≡ lastLine (length ds)
   last-there = getD-at (map digits ds) (lastLine (length ds)) [] [] (length ds) (length-map ds digits)
@@ -103,7 +103,7 @@ module _ (k : Link) (ds : List ℕ) (g : GoodTable k ds) where
   link-fine : first (linkFaults k) ≡ Fine
   link-fine = front-fine (linkFaults k) (rowFaults ds) (sym (fine-table k ds g)) .0
 
-  pub text-right : Right (textOf k ds) (length ds)
+  text-right : Right (textOf k ds) (length ds)
   text-right =
       record {
         whole = λ j l. ended-at (tableLines k ds) lines-free j (omega (arith, line-count));
@@ -145,9 +145,8 @@ module _ (k : Link) (ds : List ℕ) (g : GoodTable k ds) where
       (pass _ _ bytesAfter _ (le-ltb (endOf (textOf k ds)) (length (textOf k ds)) (omega (arith, text-end)))
       (pass _ _ badLength 0 (le-ltb room (rowsOf (textOf k ds)) (omega (arith, rows-right (textOf k ds) (length ds) text-right))) fine)))
 
-  text-taken : (old : List ℕ) → accepted (textOf k ds) old ≡ gives (says table 0 0 (k .period) (k .size) (length ds))
-      (ds ++ drop (length ds) old)
-  unfolding accepted
+  text-taken : (old : List ℕ) → gives (said (Table k (length ds))) (onFront ds old) ≡ accepted (textOf k ds) old
+  unfolding said accepted
   text-taken old =
       rw (
         rows-right (textOf k ds) (length ds) text-right,
@@ -159,7 +158,7 @@ module _ (k : Link) (ds : List ℕ) (g : GoodTable k ds) where
       )
 
   -- 6 bytes, at most 18, at most 9 for each row, at most 13
-  pub text-short : length (textOf k ds) ≤ maxText
+  text-short : length (textOf k ds) ≤ maxText
   unfolding glue pairLine lastLine
   text-short =
       omega (
@@ -175,6 +174,7 @@ module _ (k : Link) (ds : List ℕ) (g : GoodTable k ds) where
 
 -- the text of a good table is accepted as that table, wherever the list has room
 pub text-accepted : (k : Link) (ds old : List ℕ) → GoodTable k ds → length ds ≤ length old
-    → reading (textOf k ds) old ≡ gives (says table 0 0 (k .period) (k .size) (length ds)) (ds ++ drop (length ds) old)
+    → gives (said (Table k (length ds))) (onFront ds old) ≡ reading (textOf k ds) old
 unfolding reading
-text-accepted k ds old g h = rw (sym (text-fine k ds g (length old) h (text-short k ds g))) (text-taken k ds g old)
+text-accepted k ds old g h =
+    goes-on (keeping refusing old) (sym (text-fine k ds g (length old) h (text-short k ds g))) (text-taken k ds g old)

@@ -1,22 +1,23 @@
 -- Taking the values out of a text with nothing wrong: line two, and then the delays, one row a turn. Assumes nothing.
 use mathlib.Core.Path.{_≡_, refl, ap, _∙_}
 use mathlib.Core.Bool.{true}
-use mathlib.Core.List.{List, _++_, append-assoc}
+use mathlib.Core.List.{List, append-assoc}
 use Prim.Native.Nat.{ℕ, _+_, _-_, _≤_, zero, suc, _<_}
+use native.Mathlib.Numerals.{add-one}
 use native.Mathlib.Omega.{arith}
 use lib.ListN.{length, take, drop, getD, set, length-append, length-set}
+use lib.Seq.{drop-cons, set-at}
 use Rattle.ground.specs.Judging.{first}
+use Rattle.ground.specs.Lent.{onFront}
 use Rattle.ground.specs.declared.Judged.the-variants.{Fine}
 use Rattle.text.specs.Bytes.{newline, seek}
 use Rattle.text.specs.Lines.{begin, line}
 use Rattle.text.specs.Faults.{isPair, textFaults, rowsOf}
+use Rattle.text.specs.Decimal.{isDecimal, value}
+use Rattle.text.specs.Answer.{delaysOf}
 use Rattle.text.proofs.Lined.{at-line}
 use Rattle.text.proofs.Walk.{ended-low}
 use Rattle.text.proofs.Right.{right}
-use native.Mathlib.Numerals.{add-one}
-use lib.Seq.{drop-cons, set-at}
-use Rattle.text.specs.Decimal.{isDecimal, value}
-use Rattle.text.specs.Reading.{delaysOf}
 
 module _ (x : List ℕ) (e : first (textFaults x) ≡ Fine) (a : ℕ) (h : a ≡ 0 + seek newline (drop 0 x)) where
   second : a + 1 ≡ begin x 1
@@ -41,11 +42,12 @@ unfolding delaysOf
 length-delays x zero = refl
 length-delays x (suc n) = length-append (delaysOf x n) _ ∙ rw (length-delays x n) (add-one n)
 
-stored : (x old dst : List ℕ) (i v : ℕ) → i < length old → v ≡ value (line x (suc (suc i))) → dst ≡ delaysOf x i ++ drop i old
-    → set dst i v ≡ delaysOf x (suc i) ++ drop (suc i) old
+stored : (x old dst : List ℕ) (i v : ℕ) → i < length old → v ≡ value (line x (suc (suc i))) → dst ≡ onFront (delaysOf x i) old
+    → set dst i v ≡ onFront (delaysOf x (suc i)) old
 unfolding delaysOf
 stored x old dst i v m e d =
-    rw (append-assoc, ← e) (rw (d, drop-cons old i 0 m) (set-at (delaysOf x i) (getD old i 0) (drop (suc i) old) v i (length-delays x i)))
+    rw (length-delays x (suc i), append-assoc, ← e)
+    (rw (d, length-delays x i, drop-cons old i 0 m) (set-at (delaysOf x i) (getD old i 0) (drop (suc i) old) v i (length-delays x i)))
 
 -- i rows of the text x are written, and the next line begins at `from`
 pub record Written (x old : List ℕ) (rows : ℕ) (dst : List ℕ) (from i : ℕ) : Type 0 where
@@ -53,7 +55,7 @@ pub record Written (x old : List ℕ) (rows : ℕ) (dst : List ℕ) (from i : �
   pub place : from ≡ begin x (suc (suc i))
   pub inside : from ≤ length x
   pub same-length : length dst ≡ length old
-  pub so-far : dst ≡ delaysOf x i ++ drop i old
+  pub so-far : dst ≡ onFront (delaysOf x i) old
 
 module _ (x old : List ℕ) (rows : ℕ) (e : first (textFaults x) ≡ Fine) (r : rows ≡ rowsOf x) (room : rows ≤ length old) where
   pub none-yet : (at : ℕ) → at ≡ begin x 2 → Written x old rows old at 0

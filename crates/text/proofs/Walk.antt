@@ -4,28 +4,27 @@ use mathlib.Core.Bool.{Bool, true, false, not, _&&_}
 use mathlib.Core.List.{List}
 use mathlib.Core.Logic.{⊎-elim}
 use Prim.Native.Nat.{ℕ, zero, suc, _+_, _-_, _≤_, _<_}
-use native.Mathlib.Omega.{arith}
 use native.Mathlib.Numerals.{add-one}
+use native.Mathlib.Omega.{arith}
 use lib.Dec.{ltb}
 use lib.ListN.{length, drop, length-drop}
 use borrow.Author.Tests.{ltb-true, lt-ltb, not-false}
-use Rattle.text.specs.Limits.{cutLine}
-use Rattle.link.specs.Limits.{maxRows}
 use Rattle.ground.specs.Judging.{first}
 use Rattle.ground.specs.declared.Judged.{Judged}
 use Rattle.ground.specs.declared.Judged.the-variants.{Fine, Fault}
-use Rattle.ground.proofs.Bools.{clash, and-parts, lt-or-ge}
+use Rattle.ground.proofs.Bools.{clash, and-parts, lt-or-ge, never}
 use Rattle.ground.proofs.Minimum.{least-is, least-at}
 use Rattle.ground.proofs.Faults.{passed, fine, front-hit, front-pass}
+use Rattle.link.specs.Limits.{maxRows}
+use Rattle.text.specs.Limits.{cutLine}
 use Rattle.text.specs.declared.Line.{Line}
 use Rattle.text.specs.declared.Line.the-variants.{More, Last, Wrong}
 use Rattle.text.specs.declared.Text.the-variants.{Whole, Refused as Broken}
 use Rattle.text.specs.Bytes.{newline, seek}
 use Rattle.text.specs.Lines.{nextLine, begin, endedFrom, line, ended}
 use Rattle.text.specs.Faults.{isLast, ownFaults, lineFaults, linesFaults, rowsOf, textFaults, endOf}
-use Rattle.text.specs.Reading.{judging}
+use Rattle.text.specs.TextAnswer.{textSaid, judging}
 use Rattle.text.specs.Steps.{lineIf, lineSays}
-use Rattle.ground.proofs.Bools.{never}
 use Rattle.text.proofs.GoodLines.{row-parts}
 
 -- what a line's answer tells
@@ -81,8 +80,8 @@ module _ (x : List ℕ) where
       omega (arith, row-parts n _ _ (rw w at (own-fine (suc (suc n)) e)) .1)
 
 all-right : (x : List ℕ) (n m : ℕ) → rowsOf x ≡ n → first (linesFaults x (suc (suc (suc n)))) ≡ Fine
-    → m ≡ begin x (suc (suc (suc n))) → Whole n m ≡ judging x
-unfolding judging textFaults endOf
+    → m ≡ begin x (suc (suc (suc n))) → textSaid (Whole n m) ≡ judging x
+unfolding judging textSaid textFaults endOf
 all-right x n m r g f = rw (r, g, f)
 
 -- The code stands at line k, which begins at `at`: the lines before it are right, and none of them is the last.
@@ -107,10 +106,10 @@ module _ (x : List ℕ) (at k : ℕ) (w : Walked x at k) where
   low = ⊎-elim (λ h. clash (least-is (λ i. isLast (line x (suc (suc i)))) (suc maxRows) .here (omega (arith, w .few)))
       (w .rows (rowsOf x) h)) (λ h. h) (lt-or-ge (suc (suc (rowsOf x))) k)
 
-  pub broken : (n p : ℕ) → Wrong n p ≡ lineSays x at k → Broken n p ≡ judging x
-  unfolding judging textFaults linesFaults
+  pub broken : (n p : ℕ) → Wrong n p ≡ lineSays x at k → textSaid (Broken n p) ≡ judging x
+  unfolding judging textSaid textFaults linesFaults
   broken n p e =
-      let f = wrong-told _ _ _ n p (told _ e) in
+      let f = wrong-told _ (ltb 1 k && isLast (line x k)) (begin x (suc k)) n p (told _ e) in
       let g : first (linesFaults x (suc k)) ≡ Fault n p = sym
       (front-pass (linesFaults x k) (lineFaults x k) (Fault n p) (w .right) (sym f)) in
       let t = stays x (suc k) (suc (suc (suc (rowsOf x)))) n p (omega (arith, low)) g in
@@ -133,14 +132,14 @@ module _ (x : List ℕ) (at k : ℕ) (w : Walked x at k) where
       })
 
   whole-at : (n m : ℕ) → k ≡ suc (suc n) → first (lineFaults x k) ≡ Fine → isLast (line x k) ≡ true → m ≡ begin x (suc k)
-      → Whole n m ≡ judging x
+      → textSaid (Whole n m) ≡ judging x
   unfolding linesFaults rowsOf
   whole-at n m z e l f =
       let r : rowsOf x ≡ n = least-at _ (suc maxRows) n (omega (arith, w .few)) (λ i h. w .rows i (omega arith)) (λ _. rw z at l) in
       let g : first (linesFaults x (suc k)) ≡ Fine = sym (front-pass (linesFaults x k) (lineFaults x k) Fine (w .right) (sym e)) in
       all-right x n m r (rw z at g) (rw z at f)
 
-  pub whole : (m : ℕ) → Last m ≡ lineSays x at k → (2 ≤ k) × (Whole (k - 2) m ≡ judging x)
+  pub whole : (m : ℕ) → Last m ≡ lineSays x at k → (2 ≤ k) × (textSaid (Whole (k - 2) m) ≡ judging x)
   whole m e =
       let f = last-told _ _ _ m (told _ e) in
       let l = and-parts (ltb 1 k) (isLast (line x k)) (f .1) in

@@ -1,73 +1,93 @@
--- Document 01's worked text, whole and damaged, computed from the definitions.
+-- Document 01's worked text, whole and damaged, computed from the definitions; then each promise once, at a text that meets what it asks.
 use mathlib.Core.Path.{_≡_, refl, sym, ap, _∙_}
 use mathlib.Core.List.{List, [], _∷_, _++_}
-use Prim.Native.Nat.{ℕ, zero, suc, _≤_, _<_}
+use Prim.Native.Nat.{ℕ}
 use native.Mathlib.Omega.{arith}
-use lib.ListN.{length, getD, drop}
+use lib.ListN.{take, replicate, length-replicate}
 use Rattle.ground.specs.Least.{oneMore, least}
-use Rattle.link.specs.Limits.{maxDelay}
-use Rattle.link.specs.declared.Link.{Link}
+use Rattle.ground.specs.Words.{begins}
 use Rattle.ground.specs.Judging.{first, outside, andThen}
+use Rattle.ground.specs.Protocol.{gives}
 use Rattle.link.specs.Refusal.{linkFaults}
-use Rattle.text.specs.Bytes.{seek, same, begins}
+use Rattle.link.specs.declared.Link.{Link}
+use Rattle.text.specs.declared.Read.{Read}
+use Rattle.text.specs.declared.Read.the-variants.{Table, Refused}
+use Rattle.text.specs.declared.Text.{Text}
+use Rattle.text.specs.declared.Text.the-variants.{Whole}
+use Rattle.text.specs.Bytes.{seek, same}
 use Rattle.text.specs.Decimal.{isOther, allDigits, leadingZero, isDecimal, valueFrom}
 use Rattle.text.specs.Lines.{nextLine, begin, lineFrom, endedFrom}
-use Rattle.text.specs.Faults.{firstPart, secondPart, isPair, linkOf, isLast, countPart, placedAt}
-use Rattle.text.specs.Faults.{titleFaults, pairFaults, rowFaults, lastFaults, ownFaults}
-use Rattle.text.specs.Faults.{lineFaults, linesFaults, rowsOf, textFaults, endOf, lateFaults, readFaults}
-use Rattle.text.specs.Reading.{table, refusal, says, Outcome, gives, delaysOf, accepted, reading}
-use Rattle.text.specs.Writing.{digitsIn, glue, pairLine, lastLine, textOf}
-use Rattle.text.proofs.Promises.{every-table-has-a-text, lost-newline}
+use Rattle.text.specs.Faults.{firstPart, secondPart, isPair, linkOf, isLast, countPart, placedAt, titleFaults, pairFaults, rowFaults}
+use Rattle.text.specs.Faults.{lastFaults, ownFaults, lineFaults, linesFaults, rowsOf, textFaults, endOf, lateFaults, readFaults}
+use Rattle.text.specs.Answer.{said, delaysOf, accepted, reading}
+use Rattle.text.specs.TextAnswer.{textSaid, judging}
+use Rattle.text.specs.Meaning.{TableOf, RefusalOf}
+use Rattle.text.proofs.Promises.{no-second, no-second-text, table-or-refusal, accepted-is-the-text, every-table-has-a-text, one-text}
+use Rattle.text.proofs.Promises.{lost-newline, long-text}
 
 -- `pma 1`, `10 2`, `0`, `3`, and then `7`, `end 3`, with a byte 10 behind each but the `3`
-abbrev pub front : List ℕ
+abbrev front : List ℕ
 front = 112 ∷ 109 ∷ 97 ∷ 32 ∷ 49 ∷ 10 ∷ 49 ∷ 48 ∷ 32 ∷ 50 ∷ 10 ∷ 48 ∷ 10 ∷ 51 ∷ []
 
-abbrev pub back : List ℕ
+abbrev back : List ℕ
 back = 55 ∷ 10 ∷ 101 ∷ 110 ∷ 100 ∷ 32 ∷ 51 ∷ 10 ∷ []
+
+-- the text, the same without the byte 10 between 3 and 7, and the same with a byte behind it
+abbrev text : List ℕ
+text = front ++ 10 ∷ back
+
+abbrev joined : List ℕ
+joined = front ++ back
+
+abbrev longer : List ℕ
+longer = text ++ 120 ∷ []
+
+abbrev link : Link
+link = record { period = 10; size = 2 }
+
+abbrev nines : List ℕ
+nines = 9 ∷ 9 ∷ 9 ∷ 9 ∷ []
 
 pub record Worked : Type 0 where
   -- the table 10, 2, (0 3 7), and the list's tail kept
-  pub whole : reading (front ++ 10 ∷ back) (9 ∷ 9 ∷ 9 ∷ 9 ∷ []) ≡ gives (says table 0 0 10 2 3) (0 ∷ 3 ∷ 7 ∷ 9 ∷ [])
+  pub whole : gives (said (Table link 3)) (0 ∷ 3 ∷ 7 ∷ 9 ∷ []) ≡ reading text nines
   -- "With the newline between 3 and 7 lost it prints `refused 9 16`."
-  pub lost : reading (front ++ back) (9 ∷ 9 ∷ 9 ∷ []) ≡ gives (says refusal 9 16 0 0 0) (9 ∷ 9 ∷ 9 ∷ [])
+  pub lost : gives (said (Refused 9 16)) nines ≡ reading joined nines
   -- "so empty input gives 3"
-  pub empty : reading [] (9 ∷ []) ≡ gives (says refusal 3 0 0 0 0) (9 ∷ [])
+  pub empty : gives (said (Refused 3 0)) nines ≡ reading [] nines
+  -- "10 if bytes follow": the text is whole, and ends before its byte 23
+  pub behind : textSaid (Whole 3 23) ≡ judging longer
+  pub after : gives (said (Refused 10 23)) nines ≡ reading longer nines
 
 pub worked : Worked
 unfolding oneMore least first outside andThen linkFaults seek same begins isOther allDigits leadingZero isDecimal valueFrom
     nextLine begin lineFrom endedFrom firstPart secondPart isPair linkOf isLast countPart placedAt
     titleFaults pairFaults rowFaults lastFaults ownFaults lineFaults linesFaults rowsOf textFaults endOf lateFaults readFaults
-    delaysOf accepted reading
-worked = record { whole = refl; lost = refl; empty = refl }
+    delaysOf accepted said textSaid reading judging
+worked = record { whole = refl; lost = refl; empty = refl; behind = refl; after = refl }
 
--- The laws at this table: their hypotheses are met.
-abbrev link : Link
-link = record { period = 10; size = 2 }
+pub record Promised : Type 0 where
+  pub the-text : TableOf text nines link 3 (0 ∷ 3 ∷ 7 ∷ 9 ∷ [])
+  pub accepted-so : (r : Read) (new : List ℕ) → gives (said r) new ≡ reading text nines → (r ≡ Table link 3) × (new ≡ 0 ∷ 3 ∷ 7 ∷ 9 ∷ [])
+  pub no-other-text : (y old new : List ℕ) → gives (said (Table link 3)) new ≡ reading y old → take 3 new ≡ 0 ∷ 3 ∷ 7 ∷ [] → text ≡ y
+  pub refused-so : (r : Read) (new : List ℕ) → gives (said r) new ≡ reading joined nines → (r ≡ Refused 9 16) × (new ≡ nines)
+  pub refused-joined : (n : ℕ) × (p : ℕ) × (Refused 9 16 ≡ Refused n p) × RefusalOf joined nines n p nines
+  pub refused-empty : RefusalOf [] nines 3 0 nines
+  pub refused-long : (r : Read) (new : List ℕ) → gives (said r) new ≡ reading (replicate 1025 120) nines → (r ≡ Refused 1 0) × (new ≡ nines)
+  pub judged-so : (r : Text) → textSaid r ≡ judging longer → r ≡ Whole 3 23
 
-the-text : textOf link (0 ∷ 3 ∷ 7 ∷ []) ≡ front ++ 10 ∷ back
-unfolding digitsIn glue pairLine lastLine
-the-text = refl
-
-accepted-once : (old : List ℕ) → 3 ≤ length old → reading (front ++ 10 ∷ back) old ≡ gives (says table 0 0 10 2 3) (0 ∷ 3 ∷ 7 ∷ drop 3 old)
-accepted-once old h =
-    ap (λ (x : List ℕ). reading x old) (sym the-text)
-    ∙ every-table-has-a-text link (0 ∷ 3 ∷ 7 ∷ []) old
-    (record {
-      period-low = omega arith;
-      period-high = omega arith;
-      span-low = omega arith;
-      span-high = omega arith;
-      rows-low = omega arith;
-      rows-high = omega arith;
-      delays = low;
-    }) h
-  where
-    low : (i : ℕ) → i < 3 → getD (0 ∷ 3 ∷ 7 ∷ []) i 0 ≤ maxDelay
-    low zero l = omega arith
-    low (suc zero) l = omega arith
-    low (suc (suc zero)) l = omega arith
-    low (suc (suc (suc i))) l = absurd (omega arith)
-
-refused-without : (other : List ℕ) → reading (front ++ back) other .says .verdict ≡ refusal
-refused-without other = lost-newline front back (9 ∷ 9 ∷ 9 ∷ 9 ∷ []) other (ap (λ (o : Outcome). o .says .verdict) (worked .whole))
+pub promised : Promised
+promised =
+    let t = accepted-is-the-text text nines link 3 _ (worked .whole) in
+    record {
+      the-text = t;
+      accepted-so = λ r new e.
+          every-table-has-a-text link (0 ∷ 3 ∷ 7 ∷ []) nines r new (t .good) (omega arith)
+          (e ∙ ap (λ (x : List ℕ). reading x nines) (t .text));
+      no-other-text = λ y old new e h. one-text text y nines old link 3 _ new (worked .whole) e (sym h);
+      refused-so = λ r new e. no-second joined nines r (Refused 9 16) new nines e (worked .lost);
+      refused-joined = lost-newline front back nines nines link 3 _ (Refused 9 16) nines (worked .whole) (worked .lost);
+      refused-empty = table-or-refusal [] nines (Refused 3 0) nines (worked .empty);
+      refused-long = λ r new. long-text (replicate 1025 120) nines r new (omega (arith, length-replicate {A = ℕ} 1025 120));
+      judged-so = λ r e. no-second-text longer r (Whole 3 23) e (worked .behind);
+    }

@@ -1,9 +1,9 @@
--- Bytes: where a byte comes first, and fixed byte strings that are compared.
+-- Bytes: where a byte comes first, whether two lists of them are the same, and the fixed byte strings of a text.
 use mathlib.Core.Bool.{Bool, not, _&&_}
 use mathlib.Core.List.{List, [], _∷_}
 use Prim.Native.Nat.{ℕ}
-use lib.Dec.{leb, eqb}
-use lib.ListN.{length, getD, take}
+use lib.Dec.{eqb}
+use lib.ListN.{length, getD}
 use Rattle.ground.specs.Least.{least, some}
 
 -- "Every line .. ends with byte 10."
@@ -21,10 +21,6 @@ seek b xs = least (λ i. eqb (getD xs i 0) b) (length xs)
 -- xs and ys are as long as each other, and differ at no place
 unfoldable pub same : List ℕ → List ℕ → Bool
 same xs ys = eqb (length xs) (length ys) && not (some (λ i. not (eqb (getD xs i 0) (getD ys i 0))) (length xs))
-
--- xs begins with the bytes of a word
-unfoldable pub begins : List ℕ → List ℕ → Bool
-begins word xs = leb (length word) (length xs) && same word (take (length word) xs)
 
 -- `pma 1`
 abbrev pub titleWord : List ℕ

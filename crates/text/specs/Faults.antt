@@ -5,14 +5,13 @@ use Prim.Native.Nat.{ℕ, zero, suc}
 use lib.Dec.{ltb, leb, eqb}
 use lib.ListN.{length, take, drop}
 use Rattle.ground.specs.Least.{least}
-use Rattle.text.specs.Limits.{maxText, longText, badLineOne, cutLine, badLine}
-use Rattle.link.specs.Limits.{maxDelay, maxRows}
-use Rattle.text.specs.Limits.{badCount, bytesAfter}
-use Rattle.link.specs.Limits.{badDelay, badRows, badLength}
+use Rattle.ground.specs.Words.{begins}
 use Rattle.ground.specs.Judging.{Cause, when, andThen}
+use Rattle.link.specs.Limits.{maxDelay, maxRows, badDelay, badRows, badLength}
 use Rattle.link.specs.Refusal.{linkFaults}
 use Rattle.link.specs.declared.Link.{Link}
-use Rattle.text.specs.Bytes.{space, seek, same, begins, titleWord, endWord}
+use Rattle.text.specs.Limits.{maxText, longText, badLineOne, cutLine, badLine, badCount, bytesAfter}
+use Rattle.text.specs.Bytes.{space, seek, same, titleWord, endWord}
 use Rattle.text.specs.Decimal.{isDecimal, value}
 use Rattle.text.specs.Lines.{begin, line, ended}
 
@@ -82,7 +81,8 @@ unfoldable pub linesFaults : List ℕ → ℕ → List Cause
 linesFaults x zero = []
 linesFaults x (suc k) = andThen (linesFaults x k) (lineFaults x k)
 
--- the number of rows: the lines behind line two, up to the first that begins with `end` and a space (a 65th row is refused, so no more count)
+-- the number of rows: the lines behind line two, up to the first that begins with `end` and a space; a 65th row is refused, so no more
+-- are counted
 unfoldable pub rowsOf : List ℕ → ℕ
 rowsOf x = least (λ i. isLast (line x (suc (suc i)))) (suc maxRows)
 

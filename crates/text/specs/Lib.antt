@@ -1,8 +1,11 @@
 -- The definitions that the contracts of `text` cite.
+pub mod Limits
 pub mod Bytes
 pub mod Decimal
 pub mod Lines
 pub mod Faults
-pub mod Reading
+pub mod Answer
+pub mod TextAnswer
 pub mod Steps
 pub mod Writing
+pub mod Meaning

@@ -3,10 +3,10 @@ use mathlib.Core.Bool.{Bool, true, false, not, _&&_}
 use mathlib.Core.List.{List, _∷_}
 use Prim.Native.Nat.{ℕ}
 use lib.Dec.{ltb}
-use Rattle.text.specs.Limits.{cutLine}
 use Rattle.ground.specs.Judging.{first, when}
+use Rattle.ground.specs.Protocol.{unless}
 use Rattle.ground.specs.declared.Judged.{Judged}
-use Rattle.ground.specs.declared.Judged.the-variants.{Fine, Fault}
+use Rattle.text.specs.Limits.{cutLine}
 use Rattle.text.specs.Lines.{nextLine, lineFrom, endedFrom}
 use Rattle.text.specs.Faults.{isLast, ownFaults}
 use Rattle.text.specs.declared.Line.{Line}
@@ -17,8 +17,7 @@ moreIf true next = Last next
 moreIf false next = More next
 
 abbrev pub lineIf : Judged → Bool → ℕ → Line
-lineIf Fine b next = moreIf b next
-lineIf (Fault n p) b next = Wrong n p
+lineIf j b next = unless Wrong j (moreIf b next)
 
 -- line k, from `at` on: 3, then its own faults; or where the next line begins, and whether this one is the last
 unfoldable pub lineSays : List ℕ → ℕ → ℕ → Line

@@ -1,8 +1,8 @@
-// Bytes: the first of a kind, and fixed byte strings that are compared.
+// Bytes: where one comes first, and whether two lists of them are the same.
 ghost use mathlib.Core.Path.{_≡_};
 ghost use Prim.Native.Nat.{_≤_};
 ghost use lib.ListN.{length};
-ghost use Rattle.text.specs.Bytes.{seek as seekOf, same as sameOf, begins as beginsOf};
+ghost use Rattle.text.specs.Bytes.{seek as seekOf, same as sameOf};
 
 // The place of the first such byte, or the length.
 pub(crate) fn seek(bytes: &[u8], byte: u8) -> usize
@@ -33,15 +33,4 @@ pub(crate) fn same(a: &[u8], b: &[u8]) -> bool
         i += 1;
     }
     true
-}
-
-// The word stands in front.
-pub(crate) fn begins(word: &[u8], bytes: &[u8]) -> bool
-    ensures { λ r. ⌜ r ≡ beginsOf (now (word .entry)) (now (bytes .entry)) ⌝ }
-{
-    let n = word.len();
-    if n > bytes.len() {
-        return false;
-    }
-    same(word, &bytes[..n])
 }

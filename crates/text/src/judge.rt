@@ -81,7 +81,7 @@ fn pair(line: &[u8], at: usize) -> Judged
 pub(crate) fn is_last(line: &[u8]) -> bool
     ensures { λ r. ⌜ r ≡ isLast (now (line .entry)) ⌝ }
 {
-    bytes::begins(b"end ", line)
+    ground::begins(b"end ", line)
 }
 
 // A row, after so many: 4, 7, 8.

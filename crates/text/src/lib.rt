@@ -2,28 +2,32 @@
 mod bytes;
 mod decimal;
 mod judge;
+pub mod limits;
 
 use crate::limits::BYTES_AFTER;
 use crate::limits::CUT_LINE;
 use crate::limits::LONG_TEXT;
 use crate::limits::MAX_TEXT;
 use ground::Judged;
+use link::Link;
 use link::limits::BAD_LENGTH;
 ghost use mathlib.Core.Path.{_≡_};
-ghost use mathlib.Core.List.{_++_};
 ghost use Prim.Native.Nat.{_≤_, _+_};
 ghost use lib.ListN.{length, drop};
 ghost use Rattle.ground.specs.Judging.{first};
+ghost use Rattle.ground.specs.Lent.{onFront};
+ghost use Rattle.ground.specs.Protocol.{gives};
 ghost use Rattle.ground.specs.declared.Judged.the-variants.{Fine};
 ghost use Rattle.text.specs.Bytes.{newline, seek};
 ghost use Rattle.text.specs.Lines.{begin};
 ghost use Rattle.text.specs.Faults.{textFaults, rowsOf};
-ghost use Rattle.text.specs.Reading.{said, reading, accepted, judging, delaysOf};
+ghost use Rattle.text.specs.Answer.{said, reading, accepted, delaysOf};
+ghost use Rattle.text.specs.TextAnswer.{textSaid, judging};
 ghost use Rattle.text.specs.Steps.{lineSays};
 
 // What the text says: its table, or the first fault.
 pub enum Read {
-    Table { period: u32, size: u32, rows: usize },
+    Table { link: Link, rows: usize },
     Refused { number: u32, place: usize },
 }
 
@@ -42,8 +46,7 @@ enum Line {
 
 // A text and nothing behind it: 1, the faults of its lines, 10, 11; or its table, with the delays in the front of the list.
 pub fn read_table(text: &[u8], delays: &mut [u32]) -> Read
-    ensures { λ r. ⌜ said r ≡ reading (now (text .entry)) (now (delays .entry)) .says ⌝ }
-    ensures { λ r. ⌜ now (delays .exit) ≡ reading (now (text .entry)) (now (delays .entry)) .leaves ⌝ }
+    ensures { λ r. ⌜ gives (said r) (now (delays .exit)) ≡ reading (now (text .entry)) (now (delays .entry)) ⌝ }
 {
     if text.len() > MAX_TEXT {
         return Read::Refused {
@@ -73,7 +76,7 @@ pub fn read_table(text: &[u8], delays: &mut [u32]) -> Read
 
 // The lines from the start, up to the last one or the first fault.
 pub fn judge_text(text: &[u8]) -> Text
-    ensures { λ r. ⌜ r ≡ judging (now (text .entry)) ⌝ }
+    ensures { λ r. ⌜ textSaid r ≡ judging (now (text .entry)) ⌝ }
 {
     let mut at: usize = 0;
     let mut k: usize = 0;
@@ -135,25 +138,20 @@ fn judge_line(text: &[u8], at: usize, k: usize) -> Line
 fn take_table(text: &[u8], rows: usize, delays: &mut [u32]) -> Read
     requires { ⌜ first (textFaults (now text)) ≡ Fine ⌝ }
     requires { ⌜ (rows ≡ rowsOf (now text)) × (rows ≤ length (now delays)) ⌝ }
-    ensures { λ r. ⌜ said r ≡ accepted (now (text .entry)) (now (delays .entry)) .says ⌝ }
-    ensures { λ r. ⌜ now (delays .exit) ≡ accepted (now (text .entry)) (now (delays .entry)) .leaves ⌝ }
+    ensures { λ r. ⌜ gives (said r) (now (delays .exit)) ≡ accepted (now (text .entry)) (now (delays .entry)) ⌝ }
 {
     let second = line_end(text, 0) + 1;
     let end = line_end(text, second);
     let link = judge::link_of(&text[second..end]);
     write_delays(text, end + 1, rows, delays);
-    Read::Table {
-        period: link.period,
-        size: link.size,
-        rows,
-    }
+    Read::Table { link, rows }
 }
 
 // The delays of a whole text, whose third line begins at `at`, go into the front of the list.
 fn write_delays(text: &[u8], at: usize, rows: usize, delays: &mut [u32])
     requires { ⌜ first (textFaults (now text)) ≡ Fine ⌝ }
     requires { ⌜ (rows ≡ rowsOf (now text)) × (rows ≤ length (now delays)) × (at ≡ begin (now text) 2) ⌝ }
-    ensures { λ _. ⌜ now (delays .exit) ≡ delaysOf (now (text .entry)) rows ++ drop rows (now (delays .entry)) ⌝ }
+    ensures { λ _. ⌜ now (delays .exit) ≡ onFront (delaysOf (now (text .entry)) rows) (now (delays .entry)) ⌝ }
 {
     let mut from = at;
     let mut i = 0;

@@ -1,9 +1,9 @@
-use mathlib.Core.List.{List}
-use lib.ListN.{length, length-drop}
 -- What is found from `at` on is counted from the start.
 use mathlib.Core.Path.{ap}
+use mathlib.Core.List.{List}
 use Prim.Native.Nat.{ℕ, _+_}
 use native.Mathlib.Omega.{arith}
+use lib.ListN.{length, length-drop}
 use Rattle.ground.proofs.Filling.{tail-part}
 use borrow.Author.Needs.{needs}
 use Rattle.text.proofs.line_end.Statement.{statement}

@@ -1,7 +1,7 @@
-use lib.ListN.{length}
 -- The length, then a leading zero, then each byte.
 use mathlib.Core.Path.{sym, _∙_}
 use native.Mathlib.Omega.{arith}
+use lib.ListN.{length}
 use Rattle.ground.proofs.Faults.{below, above, inside}
 use Rattle.text.specs.Decimal.{maxDigits, isDecimal}
 use borrow.Author.Needs.{needs}

@@ -1,9 +1,9 @@
 -- The part before the first space, then the part behind it.
 use mathlib.Core.Path.{sym, ap, _∙_}
 use native.Mathlib.Omega.{arith}
+use lib.Seq.{length-take-le}
 use borrow.Author.Tests.{not-true, not-false}
 use Rattle.text.specs.Decimal.{isDecimal}
-use lib.Seq.{length-take-le}
 use Rattle.text.specs.Faults.{isPair}
 use Rattle.text.proofs.LineForms.{no-space, first-part, second-part}
 use borrow.Author.Needs.{needs}

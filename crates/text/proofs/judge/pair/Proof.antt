@@ -2,10 +2,10 @@
 use mathlib.Core.Path.{sym, ap, _∙_}
 use mathlib.Core.Bool.{not}
 use borrow.Author.Tests.{not-false}
-use Rattle.link.specs.declared.Link.{Link}
 use Rattle.ground.specs.Judging.{first}
-use Rattle.link.specs.Refusal.{linkFaults}
 use Rattle.ground.proofs.Faults.{hit}
+use Rattle.link.specs.declared.Link.{Link}
+use Rattle.link.specs.Refusal.{linkFaults}
 use Rattle.text.specs.Faults.{pairFaults}
 use Rattle.text.proofs.LineForms.{pair-judged}
 use borrow.Author.Needs.{needs}

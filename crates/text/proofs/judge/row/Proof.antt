@@ -3,9 +3,9 @@ use mathlib.Core.Path.{sym, ap, _∙_}
 use mathlib.Core.Bool.{not}
 use Prim.Native.Nat.{ℕ}
 use lib.Dec.{ltb}
-use Rattle.link.specs.Limits.{maxDelay}
 use borrow.Author.Tests.{not-false, lt-ltb, le-ltb, le-leb, lt-leb}
 use Rattle.ground.proofs.Faults.{hit, pass, fine}
+use Rattle.link.specs.Limits.{maxDelay}
 use Rattle.text.specs.Faults.{rowFaults}
 use borrow.Author.Needs.{needs}
 use Rattle.text.proofs.judge.row.Statement.{statement}
