@@ -20,7 +20,6 @@ pub mod Answering
 pub mod Trying
 pub mod Looping
 pub mod Planning
-pub mod Judging
 pub mod Reading
 pub mod Verdicts
 pub mod Thinning
