@@ -2,6 +2,8 @@
 pub mod Bools
 pub mod Minimum
 pub mod Counting
+pub mod Lists
+pub mod Remainders
 pub mod Beginning
 pub mod Filling
 pub mod Adding

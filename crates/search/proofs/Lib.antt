@@ -8,7 +8,6 @@ pub mod Orders
 pub mod Listing
 pub mod Sequences
 pub mod Counting
-pub mod Counts
 pub mod Moving
 pub mod States
 pub mod Completeness
@@ -20,7 +19,8 @@ pub mod Answering
 pub mod Trying
 pub mod Looping
 pub mod Planning
-pub mod Reading
+pub mod Contacts
+pub mod AllSequences
 pub mod Verdicts
 pub mod Thinning
 pub mod Meaning

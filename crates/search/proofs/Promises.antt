@@ -5,7 +5,7 @@ use mathlib.Core.Logic.{_↔_}
 use mathlib.Core.List.{List}
 use Prim.Native.Nat.{ℕ, _-_, _≤_}
 use native.Mathlib.Omega.{arith}
-use lib.ListN.{length, getD, take, drop}
+use lib.ListN.{length, getD, take}
 use lib.Seq.{take-at}
 use borrow.Author.Tests.{le-leb}
 use Rattle.ground.specs.Judging.{first}
@@ -17,14 +17,13 @@ use Rattle.link.specs.Rows.{spanOf}
 use Rattle.link.specs.declared.Link.{Link}
 use Rattle.search.specs.Limits.{maxExactRows}
 use Rattle.search.specs.Refusal.{exactFaults}
-use Rattle.search.specs.Builds.{found, none, begin, planned, rulesOf, sequencesOf}
+use Rattle.search.specs.Builds.{begin, rulesOf, sequencesOf, LeastWholeOf}
 use Rattle.search.specs.Ceilings.{ceilingOf, ceilingUpTo}
 use Rattle.search.specs.Answer.{said, Answers, ClearChoice, Fewer, Decided, given}
 use Rattle.search.specs.declared.Answer.{Answer}
 use Rattle.search.specs.declared.Answer.the-variants.{Plan, None, Spent, Refused}
-use Rattle.search.proofs.Accepted.{fine-exact}
-use Rattle.search.proofs.Least.{IsLeast, none-none}
-use Rattle.search.proofs.Listing.{steps-sorted}
+use Rattle.search.proofs.Least.{none-none}
+use Rattle.search.proofs.Listing.{steps-increasing}
 use Rattle.search.proofs.Meaning.{choice-plan, no-plan, least-at, found-clear, tests-most}
 use Rattle.search.proofs.Thinning.{shorter-plan, fewer-plan}
 use Rattle.search.proofs.Verdicts.{unsaid, again, Accepted, Planned, means, plan-answers, none-answers}
@@ -37,7 +36,7 @@ no-second k ds budget old r s new other a b = no-second-outcome said unsaid agai
 module _ (k : Link) (ds : List ℕ) (budget : ℕ) (old : List ℕ) (t : ℕ) (new : List ℕ) where
   -- "The answer is the offsets of the least whole build", with its tests; "A lent buffer longer than needed keeps its tail."
   pub plan-is-least : Answers k ds budget old (Plan t) new
-      → (s : List ℕ) × IsLeast (rulesOf k ds) (length ds - 1) (begin (k .period)) s t × (new ≡ onFront (take (length ds) s) old)
+      → (s : List ℕ) × LeastWholeOf k ds s t × (new ≡ onFront (take (length ds) s) old)
   plan-is-least a = let w = means k ds budget old (Plan t) new a in
       (w .offsets, least-at k ds (w .good .table) (w .offsets) t (w .is), w .left)
 
@@ -64,7 +63,7 @@ module _ (k : Link) (ds : List ℕ) (budget : ℕ) (old : List ℕ) (t : ℕ) (n
   pub none-counts-all : Answers k ds budget old (None t) new → length (sequencesOf k ds) ≡ t
   none-counts-all a =
       let w = means k ds budget old (None t) new a in
-      none-none (rulesOf k ds) (steps-sorted (k .period) (length ds)) (length ds - 1) (begin (k .period)) t (w .is) .1
+      none-none (rulesOf k ds) (steps-increasing (k .period) (length ds)) (length ds - 1) (begin (k .period)) t (w .is) .1
 
 -- any clear plan, a quick planner's too, means that the exact planner never says "none"
 pub clear-plan-never-none : (k : Link) (ds os : List ℕ) → ClearChoice k ds os → (budget : ℕ) (old : List ℕ) (t : ℕ) (new : List ℕ)

@@ -1,6 +1,6 @@
 -- What each answer means: a plan and 14 are what the search finds within the budget, 15 has more tests than it, and a refusal has a
 -- fault. Assumes nothing.
-use mathlib.Core.Path.{_≡_, refl, sym, ap, _∙_}
+use mathlib.Core.Path.{_≡_, refl, sym, _∙_}
 use mathlib.Core.Logic.{⊎-elim}
 use mathlib.Core.List.{List}
 use Prim.Native.Nat.{ℕ, _<_, _≤_}
@@ -8,7 +8,7 @@ use lib.ListN.{length, take}
 use borrow.Author.Tests.{lt-ltb, le-ltb}
 use Rattle.ground.specs.Judging.{first}
 use Rattle.ground.specs.Lent.{onFront}
-use Rattle.ground.specs.Protocol.{Outcome, gives, keeping}
+use Rattle.ground.specs.Protocol.{gives, keeping}
 use Rattle.ground.specs.declared.Judged.the-variants.{Fine, Fault}
 use Rattle.ground.proofs.Answers.{Told, stopped, through, told, goes-on, no-second-outcome}
 use Rattle.ground.proofs.Bools.{lt-or-ge}
@@ -17,7 +17,8 @@ use Rattle.link.specs.declared.Link.{Link}
 use Rattle.search.specs.Limits.{maxExactRows}
 use Rattle.search.specs.Refusal.{exactFaults}
 use Rattle.search.specs.Builds.{Out, found, none, planned}
-use Rattle.search.specs.Answer.{Verdict, plan, nothing, spent, refusal, Said, said, within, outcome, refusing, searched, exactly, Answers}
+use Rattle.search.specs.Answer.{Verdict, plan, nothing, spent, refusal, Said, said, within, outcome, refusing, searched}
+use Rattle.search.specs.Answer.{exactly, Answers}
 use Rattle.search.specs.declared.Answer.{Answer}
 use Rattle.search.specs.declared.Answer.the-variants.{Plan, None, Spent, Refused}
 use Rattle.search.proofs.Accepted.{good-exact, fine-exact}

@@ -6,22 +6,23 @@ use mathlib.Core.List.{List, [], _∷_}
 use Prim.Native.Nat.{ℕ, _≤_}
 use native.Mathlib.Omega.{arith}
 use lib.ListN.{length, take, drop}
+use Rattle.ground.specs.Count.{countIn}
 use Rattle.ground.specs.Judging.{first, outside, andThen}
 use Rattle.ground.specs.Least.{oneMore, least}
 use Rattle.ground.specs.Lent.{onFront}
+use Rattle.ground.specs.Lists.{from}
 use Rattle.link.specs.Slots.{uses, meets}
 use Rattle.link.specs.Rows.{second, start, hits, either}
 use Rattle.link.specs.Refusal.{linkFaults, rowFaults, roomFaults}
 use Rattle.link.specs.declared.Link.{Link}
 use Rattle.search.specs.Refusal.{exactFaults}
-use Rattle.search.specs.Steps.{placed, from, besides, rowSteps, steps, after, offsetOf, puts, inTheWay, good, put}
-use Rattle.search.specs.Builds.{order, orderSteps, behind, sequences, leads, allGood, isWhole, firstOf, count, counted, leastBuild}
-use Rattle.search.specs.Builds.{begin, rulesOf, sequencesOf}
+use Rattle.search.specs.Steps.{placed, besides, rowSteps, steps, after, offsetOf, puts, inTheWay, good, put}
+use Rattle.search.specs.Builds.{order, orderSteps, behind, sequences, leads, allGood, isWhole, firstOf, counted, leastBuild}
+use Rattle.search.specs.Builds.{sequencesOf, LeastWholeOf}
 use Rattle.search.specs.Ceilings.{product, products, choices, ceilingOf, ceilingUpTo}
 use Rattle.search.specs.Answer.{said, within, outcome, exactly, Answers, ClearChoice, empty, keep, take-out}
 use Rattle.search.specs.declared.Answer.{Answer}
 use Rattle.search.specs.declared.Answer.the-variants.{Plan, None, Spent, Refused}
-use Rattle.search.proofs.Least.{IsLeast}
 use Rattle.search.proofs.Promises.{no-second, plan-is-least, plan-is-clear, none-means-none, none-counts-all}
 use Rattle.search.proofs.Promises.{clear-plan-never-none, tail-kept, larger-budget-same, tests-below-ceiling, ceiling-enough}
 use Rattle.search.proofs.Promises.{plan-exactly-when-clear, shorter-never-none, fewer-rows-never-none}
@@ -51,7 +52,7 @@ pub answers :
     × Answers (table 3 1) tight 16 lent (None 16) lent
     × Answers (table 10 2) nine 5 nine (Refused 12 0) nine
     × Answers (table 10 2) nine 5 lent (Refused 11 0) lent
-unfolding said exactly outcome within leastBuild counted count firstOf isWhole allGood leads sequences behind orderSteps order put
+unfolding said exactly outcome within leastBuild counted countIn firstOf isWhole allGood leads sequences behind orderSteps order put
     good inTheWay puts offsetOf after steps rowSteps besides from placed exactFaults roomFaults rowFaults linkFaults andThen
     outside first either hits start second meets uses least oneMore
 answers = (refl, refl, refl, refl)
@@ -62,7 +63,7 @@ first-only r new a = no-second (table 10 2) three 3 lent r (Plan 3) new planned 
 pub first-clear : ClearChoice (table 10 2) three (0 ∷ 2 ∷ 5 ∷ [])
 first-clear = plan-is-clear (table 10 2) three 3 lent 3 planned (answers .0)
 
-pub first-least : (s : List ℕ) × IsLeast (rulesOf (table 10 2) three) 2 (begin 10) s 3 × (planned ≡ onFront (take 3 s) lent)
+pub first-least : (s : List ℕ) × LeastWholeOf (table 10 2) three s 3 × (planned ≡ onFront (take 3 s) lent)
 first-least = plan-is-least (table 10 2) three 3 lent 3 planned (answers .0)
 
 pub first-tail : planned ≡ onFront (0 ∷ 2 ∷ 5 ∷ []) lent
