@@ -1,11 +1,14 @@
--- Counting the numbers below n that have a test: gaps, runs, two tests that exclude each other, and the rest. Assumes nothing.
+-- Counting the numbers below n that have a test: gaps, runs, two tests that exclude each other, and the rest; and those of a list.
+-- Assumes nothing.
 use mathlib.Core.Path.{_≡_, refl, _∙_, ap}
 use mathlib.Core.Bool.{Bool, true, false, not, cond, _||_}
+use mathlib.Core.List.{List, [], _∷_, List·Memᴰ, List·Memᴰ·head, List·Memᴰ·tail}
 use mathlib.Core.Logic.{⊎-elim}
 use Prim.Native.Nat.{ℕ, zero, suc, _+_, _-_, _≤_, _<_}
 use native.Mathlib.Omega.{arith}
+use lib.ListN.{length}
 use Rattle.ground.proofs.Bools.{lt-or-ge, is-false, true-or-false}
-use Rattle.ground.specs.Count.{count}
+use Rattle.ground.specs.Count.{count, countIn}
 
 -- what no number from x to before y changes is at y what it was at x
 pub same-up : {A : Type 0} (f : ℕ → A) (x y : ℕ) → x ≤ y → ((s : ℕ) → x ≤ s → s < y → f (suc s) ≡ f s) → f y ≡ f x
@@ -110,3 +113,18 @@ count-front q zero = go (q 0)
 count-front q (suc n) =
     ⊎-elim (λ e. omega (arith, count-in q (suc n) e, count-in (λ i. q (suc i)) n e, count-front q n))
     (λ e. omega (arith, count-out q (suc n) e, count-out (λ i. q (suc i)) n e, count-front q n)) (true-or-false (q (suc n)))
+
+-- of a list: none that is not counted, and no more than there are
+pub count-in-none : {A : Type 0} (f : A → Bool) (xs : List A) → ((x : A) → List·Memᴰ x xs → f x ≡ false) → countIn f xs ≡ 0
+unfolding countIn
+count-in-none f [] h = refl
+count-in-none f (x ∷ xs) h = rw (h x (List·Memᴰ·head refl)) (count-in-none f xs (λ y m. h y (List·Memᴰ·tail m)))
+
+pub count-in-low : {A : Type 0} (f : A → Bool) (xs : List A) → countIn f xs ≤ length xs
+unfolding countIn
+count-in-low f [] = omega arith
+count-in-low f (x ∷ xs) = go (f x) (count-in-low f xs)
+  where
+    go : (b : Bool) → countIn f xs ≤ length xs → cond b (suc (countIn f xs)) (countIn f xs) ≤ suc (length xs)
+    go true h = omega arith
+    go false h = omega arith

@@ -2,8 +2,10 @@
 pub mod Bools
 pub mod Minimum
 pub mod Counting
-pub mod Beginning
 pub mod Lists
+pub mod Elements
+pub mod Remainders
+pub mod Beginning
 pub mod Filling
 pub mod Adding
 pub mod Faults

@@ -1,14 +1,14 @@
 -- How the code's answer with so many tests to spend follows from the answers of its parts. Assumes nothing.
 use mathlib.Core.Path.{_≡_, refl, sym, ap, _∙_}
-use mathlib.Core.Bool.{Bool, true, false, cond}
+use mathlib.Core.Logic.{⊎-elim}
+use mathlib.Core.Bool.{Bool, true, false}
 use mathlib.Core.List.{List}
 use Prim.Native.Nat.{ℕ, _+_, _-_, _<_, _≤_}
 use native.Mathlib.Nat.{sub-zero, add-assoc}
 use native.Mathlib.Omega.{arith}
 use lib.Dec.{leb}
-use lib.ListN.{getD, set}
-use lib.Seq.{set-set, set-getD}
 use borrow.Author.Tests.{le-leb, lt-leb, leb-true, leb-false}
+use Rattle.ground.proofs.Bools.{lt-or-ge}
 use Rattle.search.specs.Builds.{Out, found, none}
 use Rattle.search.specs.Search.{more, orElse, verdict, leaves, Answered}
 use Rattle.search.specs.declared.Hunt.{Hunt}
@@ -61,69 +61,50 @@ module _ (l n : ℕ) (s : List ℕ) where
   spent-more (none m) h s′ g a =
       let q : l - (n + m) ≡ l - n - m = omega arith in record { told = a .told ∙ rw (fits-more m g, q); kept = a .kept }
 
-found-spent : (a : ℕ) → Found a ≡ Spent → ⊥
-found-spent a e = let z : _≡_ {A = ℕ} 0 1 = cc in omega arith
-
-found-nothing : (a b : ℕ) → Found a ≡ Nothing b → ⊥
-found-nothing a b e = let z : _≡_ {A = ℕ} 0 1 = cc in omega arith
-
-nothing-spent : (a : ℕ) → Nothing a ≡ Spent → ⊥
-nothing-spent a e = let z : _≡_ {A = ℕ} 0 1 = cc in omega arith
-
-same-nothing : (a b : ℕ) → Nothing a ≡ Nothing b → a ≡ b
-same-nothing a b e = cc
-
--- what each answer says of the search, and of the offsets that it leaves
-pub is-found : (l : ℕ) (s s′ : List ℕ) (o : Out) (k : ℕ) → Answered l s o (Found k) s′
-    → (n : ℕ) × (o ≡ found s′ n) × (n ≤ l) × (k ≡ l - n)
-unfolding verdict leaves
-is-found l s s′ (found x n) k a = go (leb n l) refl (a .told) (a .kept)
-  where
-    same-found : (a b : ℕ) → Found a ≡ Found b → a ≡ b
-    same-found a b e = cc
-
-    go : (b : Bool) → leb n l ≡ b → Found k ≡ cond b (Found (l - n)) Spent → s′ ≡ cond b x s
-        → (m : ℕ) × (found x n ≡ found s′ m) × (m ≤ l) × (k ≡ l - m)
-    go true q e f = (n, ap (λ (y : List ℕ). found y n) (sym f), leb-true n l q, same-found _ _ e)
-    go false q e f = absurd (found-spent k e)
-is-found l s s′ (none n) k a = absurd (go (leb n l) (a .told))
-  where
-    go : (b : Bool) → Found k ≡ cond b (Nothing (l - n)) Spent → ⊥
-    go true e = found-nothing k (l - n) e
-    go false e = found-spent k e
-
-pub is-nothing : (l : ℕ) (s s′ : List ℕ) (o : Out) (k : ℕ) → Answered l s o (Nothing k) s′
-    → (n : ℕ) × (o ≡ none n) × (n ≤ l) × (k ≡ l - n) × (s′ ≡ s)
-unfolding verdict leaves
-is-nothing l s s′ (found x n) k a = absurd (go (leb n l) (a .told))
-  where
-    go : (b : Bool) → Nothing k ≡ cond b (Found (l - n)) Spent → ⊥
-    go true e = found-nothing (l - n) k (sym e)
-    go false e = nothing-spent k e
-is-nothing l s s′ (none n) k a = go (leb n l) refl (a .told)
-  where
-    go : (b : Bool) → leb n l ≡ b → Nothing k ≡ cond b (Nothing (l - n)) Spent
-        → (m : ℕ) × (none n ≡ none m) × (m ≤ l) × (k ≡ l - m) × (s′ ≡ s)
-    go true q e = (n, refl, leb-true n l q, same-nothing _ _ e, a .kept)
-    go false q e = absurd (nothing-spent k e)
-
 -- the tests of a search
 abbrev pub tests : Out → ℕ
 tests (found s n) = n
 tests (none n) = n
 
-pub is-spent : (l : ℕ) (s s′ : List ℕ) (o : Out) → Answered l s o Spent s′ → (l < tests o) × (s′ ≡ s)
-unfolding verdict leaves
-is-spent l s s′ (found x n) a = go (leb n l) refl (a .told) (a .kept)
-  where
-    go : (b : Bool) → leb n l ≡ b → Spent ≡ cond b (Found (l - n)) Spent → s′ ≡ cond b x s → (l < n) × (s′ ≡ s)
-    go true q e f = absurd (found-spent (l - n) (sym e))
-    go false q e f = (leb-false n l q, f)
-is-spent l s s′ (none n) a = go (leb n l) refl (a .told)
-  where
-    go : (b : Bool) → leb n l ≡ b → Spent ≡ cond b (Nothing (l - n)) Spent → (l < n) × (s′ ≡ s)
-    go true q e = absurd (nothing-spent (l - n) (sym e))
-    go false q e = (leb-false n l q, a .kept)
+-- what each answer says of the search o, and of the offsets that it leaves
+module _ (l : ℕ) (s s′ : List ℕ) (o : Out) where
+  pub record Finds (k : ℕ) : Type 0 where
+    pub taken : ℕ
+    pub is : o ≡ found s′ taken
+    pub enough : taken ≤ l
+    pub rest : k ≡ l - taken
+
+  pub record Fails (k : ℕ) : Type 0 where
+    pub taken : ℕ
+    pub is : o ≡ none taken
+    pub enough : taken ≤ l
+    pub rest : k ≡ l - taken
+    pub same : s′ ≡ s
+
+  pub record Breaks : Type 0 where
+    pub above : l < tests o
+    pub same : s′ ≡ s
+
+  abbrev pub Ends : Hunt → Type 0
+  Ends (Found k) = Finds k
+  Ends (Nothing k) = Fails k
+  Ends Spent = Breaks
+
+  pub ends : (h : Hunt) → Answered l s o h s′ → Ends h
+  unfolding verdict leaves
+  ends h a = go o refl (a .told) (a .kept)
+    where
+      go : (x : Out) → o ≡ x → h ≡ verdict l x → s′ ≡ leaves l s x → Ends h
+      go (found x n) e f g =
+          ⊎-elim
+          (λ q. let m : h ≡ Spent = f ∙ rw (lt-leb n l q) in rw m (record { above = rw e q; same = g ∙ rw (lt-leb n l q) }))
+          (λ q. let m : h ≡ Found (l - n) = f ∙ rw (le-leb n l q) in
+          let left : s′ ≡ x = g ∙ rw (le-leb n l q) in
+          rw m (record { taken = n; is = e ∙ ap (λ (y : List ℕ). found y n) (sym left); enough = q; rest = refl })) (lt-or-ge l n)
+      go (none n) e f g =
+          ⊎-elim (λ q. let m : h ≡ Spent = f ∙ rw (lt-leb n l q) in rw m (record { above = rw e q; same = g }))
+          (λ q. let m : h ≡ Nothing (l - n) = f ∙ rw (le-leb n l q) in
+          rw m (record { taken = n; is = e; enough = q; rest = refl; same = g })) (lt-or-ge l n)
 
 -- and the way back
 pub as-found : (l : ℕ) (s s′ : List ℕ) (o : Out) (n k : ℕ) → o ≡ found s′ n → n ≤ l → k ≡ l - n → Answered l s o (Found k) s′
@@ -142,13 +123,13 @@ as-spent l s (none n) h = record { told = rw (lt-leb n l h); kept = refl }
 -- the same answer where s stood in place of r
 module _ (l : ℕ) (r s s′ : List ℕ) (o : Out) where
   pub found-from : (k : ℕ) → Answered l r o (Found k) s′ → Answered l s o (Found k) s′
-  found-from k a = let w = is-found l r s′ o k a in as-found l s s′ o (w .0) k (w .1) (w .2) (w .3)
+  found-from k a = let w = ends l r s′ o (Found k) a in as-found l s s′ o (w .taken) k (w .is) (w .enough) (w .rest)
 
   pub nothing-from : (k : ℕ) → Answered l r o (Nothing k) s′ → Answered l s o (Nothing k) s
-  nothing-from k a = let w = is-nothing l r s′ o k a in as-nothing l s o (w .0) k (w .1) (w .2) (w .3)
+  nothing-from k a = let w = ends l r s′ o (Nothing k) a in as-nothing l s o (w .taken) k (w .is) (w .enough) (w .rest)
 
   pub spent-from : Answered l r o Spent s′ → Answered l s o Spent s
-  spent-from a = as-spent l s o (is-spent l r s′ o a .0)
+  spent-from a = as-spent l s o (ends l r s′ o Spent a .above)
 
 tests-more : (n : ℕ) (o : Out) → tests (more n o) ≡ n + tests o
 unfolding more
@@ -164,21 +145,19 @@ tests-or (none m) w = omega (arith, tests-more m w)
 module _ (l : ℕ) (s s′ : List ℕ) (o rest : Out) where
   pub or-found : (k : ℕ) → Answered l s o (Found k) s′ → Answered l s (orElse o rest) (Found k) s′
   unfolding orElse
-  or-found k a = let w = is-found l s s′ o k a in as-found l s s′ (orElse o rest) (w .0) k (ap (λ (x : Out). orElse x rest) (w .1)) (w .2)
-      (w .3)
+  or-found k a =
+      let w = ends l s s′ o (Found k) a in
+      as-found l s s′ (orElse o rest) (w .taken) k (ap (λ (x : Out). orElse x rest) (w .is)) (w .enough) (w .rest)
 
   pub or-spent : Answered l s o Spent s′ → Answered l s (orElse o rest) Spent s
-  or-spent a = let w = is-spent l s s′ o a in as-spent l s (orElse o rest) (omega (arith, w, tests-or o rest))
+  or-spent a = as-spent l s (orElse o rest) (omega (arith, ends l s s′ o Spent a .above, tests-or o rest))
 
   pub or-next : (k : ℕ) (h : Hunt) (s″ : List ℕ) → Answered l s o (Nothing k) s′ → Answered k s rest h s″
       → Answered l s (orElse o rest) h s″
   unfolding orElse
   or-next k h s″ a b =
-      let w = is-nothing l s s′ o k a in
-      rw (w .1) (spent-more l (w .0) s rest h s″ (w .2) (rw (w .3) at b))
-
-pub restored : (s s′ : List ℕ) (j a : ℕ) → s′ ≡ set s j a → set s′ j (getD s j 0) ≡ s
-restored s s′ j a e = rw (e, set-set, set-getD)
+      let w = ends l s s′ o (Nothing k) a in
+      rw (w .is) (spent-more l (w .taken) s rest h s″ (w .enough) (rw (w .rest) at b))
 
 pub told-as : {l : ℕ} {s : List ℕ} {o : Out} {h h′ : Hunt} {s′ : List ℕ} → h ≡ h′ → Answered l s o h s′ → Answered l s o h′ s′
 told-as e a = record { told = sym e ∙ a .told; kept = a .kept }

@@ -1,11 +1,10 @@
 -- The code's test of a candidate is the definition's: over lists of starts, with the test of two starts that needs no slots.
 -- Assumes nothing.
-use mathlib.Core.Path.{_≡_, refl, sym, ap, _∙_}
+use mathlib.Core.Path.{_≡_, refl, ap, _∙_}
 use mathlib.Core.Bool.{Bool, true, false, _&&_, _||_, not}
 use mathlib.Core.List.{List}
-use Prim.Native.Nat.{ℕ, _+_, _-_, _<_, _≤_}
+use Prim.Native.Nat.{ℕ, _<_, _≤_}
 use native.Mathlib.Omega.{arith}
-use native.Mathlib.Nat.{mod-eq-of-lt, mod-eq-sub-mod}
 use lib.Dec.{ltb}
 use lib.ListN.{getD}
 use borrow.Author.Tests.{lt-ltb, le-ltb, ltb-true}
@@ -17,15 +16,6 @@ use Rattle.ground.proofs.Minimum.{least-cong}
 use Rattle.link.proofs.Meeting.{second-low}
 use Rattle.search.specs.Steps.{Step, placed, puts, inTheWay, good}
 use Rattle.search.specs.Search.{Table, Starts, blocked, unblocked}
-
--- a sum below the period, and one that goes round
-pub turn-low : (p a b : ℕ) → a + b < p → a + b ≡ second p b a
-unfolding second
-turn-low p a b h = sym (mod-eq-of-lt h)
-
-pub turn-high : (p a b : ℕ) → p ≤ a + b → a + b < p + p → a + b - p ≡ second p b a
-unfolding second
-turn-high p a b h l = sym (mod-eq-sub-mod h ∙ mod-eq-of-lt (omega arith))
 
 module _ (p l a b x y : ℕ) where
   pub not-placed : p ≤ x → false ≡ blocked p l a b x y

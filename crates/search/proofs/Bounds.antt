@@ -6,24 +6,18 @@ use Prim.Native.Nat.{ℕ, zero, suc, _+_, _-_, _*_, _<_, _≤_}
 use native.Mathlib.Omega.{arith}
 use native.Mathlib.Nat.{le-trans, le-refl, suc-mul}
 use lib.ListN.{length, length-append, length-map}
+use Rattle.ground.specs.Count.{count}
+use Rattle.ground.specs.Lists.{from}
+use Rattle.ground.proofs.Counting.{count-not}
+use Rattle.ground.proofs.Lists.{length-from}
 use Rattle.link.specs.Limits.{maxRows}
 use Rattle.link.specs.Rows.{one, two}
-use Rattle.search.specs.Steps.{Step, step, Rules, rules, placed, from, besides, rowSteps, steps}
-use Rattle.search.specs.Builds.{behind, sequences, begin, count}
+use Rattle.search.specs.Steps.{Step, step, Rules, rules, placed, besides, rowSteps, steps}
+use Rattle.search.specs.Builds.{behind, sequences, begin}
 use Rattle.search.specs.Ceilings.{choices, ceilingOf}
 use Rattle.search.proofs.Ceilings.{nested, products-nested}
-use Rattle.search.proofs.Counts.{howMany, all-of, length-from}
 use Rattle.search.proofs.Listing.{steps-are}
 use Rattle.search.proofs.States.{At, put-at, begin-at}
-
-pub count-most : (f : List Step → Bool) (qs : List (List Step)) → count f qs ≤ length qs
-unfolding count
-count-most f [] = omega arith
-count-most f (q ∷ qs) = go (f q) (count-most f qs)
-  where
-    go : (b : Bool) → count f qs ≤ length qs → cond b 1 0 + count f qs ≤ suc (length qs)
-    go true h = omega arith
-    go false h = omega arith
 
 -- each candidate is one sequence, and has at most b behind it
 behind-most : (r : Rules) (d : List ℕ → List (List Step)) (s : List ℕ) (b : ℕ) (ks : List Step)
@@ -52,25 +46,25 @@ module _ (p n : ℕ) (s : List ℕ) where
       go true = refl
       go false = refl
 
-  row-length : (j : ℕ) → length (rowSteps p n s j) ≡ cond (not (placed p s j)) (2 * howMany (placed p s) 0 n) 0
+  row-length : (j : ℕ) → length (rowSteps p n s j) ≡ cond (not (placed p s j)) (2 * count (placed p s) n) 0
   unfolding rowSteps
   row-length j = go (placed p s j)
     where
-      go : (b : Bool) → length (cond b [] (from (besides p s j) 0 n)) ≡ cond (not b) (2 * howMany (placed p s) 0 n) 0
+      go : (b : Bool) → length (cond b [] (from (besides p s j) 0 n)) ≡ cond (not b) (2 * count (placed p s) n) 0
       go true = refl
-      go false = length-from (besides p s j) (placed p s) 2 (beside-two j) 0 n
+      go false = length-from (besides p s j) (placed p s) 2 (beside-two j) n
 
   -- two for each row that is placed and each that is not
-  pub steps-length : length (steps p n s) ≡ 2 * howMany (placed p s) 0 n * howMany (λ i. not (placed p s i)) 0 n
+  pub steps-length : length (steps p n s) ≡ 2 * count (placed p s) n * count (λ i. not (placed p s i)) n
   unfolding steps
-  steps-length = length-from (rowSteps p n s) (λ i. not (placed p s i)) (2 * howMany (placed p s) 0 n) row-length 0 n
+  steps-length = length-from (rowSteps p n s) (λ i. not (placed p s i)) (2 * count (placed p s) n) row-length n
 
 module _ (p l : ℕ) (ds : List ℕ) (n : ℕ) (some : 0 < p) where
   choices-at : (b u : ℕ) (s : List ℕ) → b + u ≡ n → At p n u s → length (steps p n s) ≡ choices n b
   unfolding choices
   choices-at b u s e a =
-      let f = all-of (placed p s) 0 n in
-      let x : howMany (placed p s) 0 n ≡ b = omega (arith, a .left) in
+      let f = count-not (placed p s) n in
+      let x : count (placed p s) n ≡ b = omega (arith, a .left) in
       let y : n - b ≡ u = omega arith in
       rw (steps-length p n s, x, y, a .left)
 

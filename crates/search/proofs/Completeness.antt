@@ -1,9 +1,9 @@
 -- Where some offsets are clear, a step leads on: rows that are not placed move back slot by slot, all together, until one touches a
 -- placed row; that step is good, and the offsets agree with where it leads. Assumes nothing.
 use mathlib.Core.Path.{_≡_, refl, sym, ap, _∙_, subst}
-use mathlib.Core.Logic.{_⊎_, inl, inr, ⊎-elim}
+use mathlib.Core.Logic.{_⊎_, ⊎-elim}
 use mathlib.Core.Bool.{Bool, true, false, _&&_, not, cond}
-use mathlib.Core.List.{List, [], _∷_, List·Memᴰ, List·Memᴰ·head, List·Memᴰ·tail, List·Memᴰ·cases-cons, List·Memᴰ·not-nil}
+use mathlib.Core.List.{List, List·Memᴰ}
 use Prim.Native.Nat.{ℕ, zero, suc, _-_, _<_, _≤_}
 use native.Mathlib.Omega.{arith}
 use lib.Dec.{eqb}
@@ -11,12 +11,13 @@ use lib.ListN.{length, getD}
 use borrow.Author.Tests.{lt-ltb, eq-eqb, eqb-true, eqb-false}
 use Rattle.link.specs.Rows.{Crossing, one, two, start, startAt, hits, either}
 use Rattle.ground.proofs.Bools.{clash}
-use Rattle.link.proofs.Circle.{Apart}
+use Rattle.ground.proofs.Lists.{look}
+use Rattle.link.proofs.Circle.{Apart, Turned}
 use Rattle.ground.proofs.Minimum.{some-none}
 use Rattle.link.proofs.Meeting.{start-low, neither}
 use Rattle.search.specs.Steps.{Step, step, placed, after, puts, inTheWay, good, put, steps, isStep}
 use Rattle.search.proofs.Listing.{steps-have}
-use Rattle.search.proofs.Moving.{Back, apart-sym, apart-both, apart-one, start-back, offset-start, apart-met}
+use Rattle.search.proofs.Moving.{apart-sym, apart-both, apart-one, start-back, offset-start, apart-met}
 use Rattle.search.proofs.Numbers.{names}
 use Rattle.search.proofs.States.{is-placed, placed-low, not-placed, put-other, put-here}
 
@@ -29,16 +30,6 @@ pub record Plan (p l : ℕ) (ds : List ℕ) (n : ℕ) (A : ℕ → ℕ) : Type 0
 -- it agrees with the rows that are placed
 abbrev pub Extends : ℕ → ℕ → List ℕ → (ℕ → ℕ) → Type 0
 Extends p n s A = (i : ℕ) → i < n → placed p s i ≡ true → A i ≡ getD s i 0
-
-look : (f : Step → Bool) (ks : List Step) → ((k : Step) × List·Memᴰ k ks × (f k ≡ true)) ⊎ ((k : Step) → List·Memᴰ k ks → f k ≡ false)
-look f [] = inr (λ k m. absurd (List·Memᴰ·not-nil m))
-look f (x ∷ ks) = go (f x) refl (look f ks)
-  where
-    go : (b : Bool) → f x ≡ b → ((k : Step) × List·Memᴰ k ks × (f k ≡ true)) ⊎ ((k : Step) → List·Memᴰ k ks → f k ≡ false)
-        → ((k : Step) × List·Memᴰ k (x ∷ ks) × (f k ≡ true)) ⊎ ((k : Step) → List·Memᴰ k (x ∷ ks) → f k ≡ false)
-    go true e w = inl (x, List·Memᴰ·head refl, e)
-    go false e (inl w) = inl (w .0, List·Memᴰ·tail (w .1), w .2)
-    go false e (inr w) = inr (λ k m. ⊎-elim (λ z. ap f z ∙ e) (w k) (List·Memᴰ·cases-cons m))
 
 step-is : (p n : ℕ) (s : List ℕ) (j i : ℕ) (c : Crossing) → i < n → j < n → placed p s i ≡ true → placed p s j ≡ false
     → isStep p n s (step j i c) ≡ true
@@ -87,25 +78,28 @@ module _ (p l : ℕ) (ds : List ℕ) (n : ℕ) (hl : 0 < l) (lp : l ≤ p) (hn :
       moved b i = cond b (A i) (A i - 1)
 
       back-one : (c : Crossing) (j : ℕ) → j < n → placed p s j ≡ false
-          → Back p (st c j) (startAt p c (getD ds j 0) (A j - 1))
+          → Turned p (suc (startAt p c (getD ds j 0) (A j - 1))) (st c j)
       back-one c j h e =
           let w = later j h e in
           let q : A j ≡ suc (A j - 1) = omega arith in
-          subst (λ (y : ℕ). Back p (startAt p c (getD ds j 0) y) (startAt p c (getD ds j 0) (A j - 1))) (sym q)
+          subst (λ (y : ℕ). Turned p (suc (startAt p c (getD ds j 0) (A j - 1))) (startAt p c (getD ds j 0) y)) (sym q)
           (start-back p c (getD ds j 0) (A j - 1) (omega (arith, a .inside j h)))
+
+      back-low : (c : Crossing) (j : ℕ) → j < n → startAt p c (getD ds j 0) (A j - 1) < p
+      back-low c j h = start-low p c (getD ds j 0) (A j - 1) (omega (arith, a .inside j h))
 
       still : (c : Crossing) (i j : ℕ) → i < n → j < n → (i ≡ j → ⊥) → (b d : Bool) → placed p s i ≡ b → placed p s j ≡ d
           → Apart p l (startAt p c (getD ds i 0) (moved b i)) (startAt p c (getD ds j 0) (moved d j))
       still c i j hi hj m true true pi pj = a .apart c i j hi hj m
       still c i j hi hj m true false pi pj =
-          apart-one p l _ _ _ hl lp (st-low c i hi) (st-low c j hj) (a .apart c i j hi hj m) (back-one c j hj pj)
+          apart-one p l _ _ _ hl lp (st-low c i hi) (back-low c j hj) (a .apart c i j hi hj m) (back-one c j hj pj)
           (free-of c i j hi hj pi pj)
       still c i j hi hj m false true pi pj =
           apart-sym p l _ _
-          (apart-one p l _ _ _ hl lp (st-low c j hj) (st-low c i hi) (a .apart c j i hj hi (λ z. m (sym z))) (back-one c i hi pi)
+          (apart-one p l _ _ _ hl lp (st-low c j hj) (back-low c i hi) (a .apart c j i hj hi (λ z. m (sym z))) (back-one c i hi pi)
           (free-of c j i hj hi pj pi))
       still c i j hi hj m false false pi pj =
-          apart-both p l _ _ _ _ hl (st-low c i hi) (st-low c j hj) (a .apart c i j hi hj m) (back-one c i hi pi) (back-one c j hj pj)
+          apart-both p l _ _ _ _ hl (back-low c i hi) (back-low c j hj) (a .apart c i j hi hj m) (back-one c i hi pi) (back-one c j hj pj)
 
       moved-plan : Plan p l ds n (λ i. moved (placed p s i) i)
       moved-plan = record {

@@ -1,20 +1,24 @@
 -- The search goes through the step sequences in their order: it finds the least whole build, with as many tests as sequences are
 -- not later. Assumes nothing.
 use mathlib.Core.Path.{_≡_, refl, sym, ap, _∙_}
-use mathlib.Core.Bool.{Bool, true, false, _&&_, cond}
+use mathlib.Core.Bool.{Bool, true, false, not, cond, and-false}
 use mathlib.Core.List.{List, [], _∷_, _++_, map, List·Memᴰ·head, List·Memᴰ·tail}
 use Prim.Native.Nat.{ℕ, zero, suc, _-_}
 use native.Mathlib.Omega.{arith}
-use lib.Dec.{eqb, eqb·suc-suc}
+use lib.Dec.{eqb·suc-suc}
 use lib.ListN.{length}
 use borrow.Author.Tests.{ne-eqb}
+use Rattle.ground.specs.Count.{countIn}
+use Rattle.ground.specs.Lists.{Before, Increasing}
+use Rattle.ground.proofs.Bools.{never}
+use Rattle.ground.proofs.Counting.{count-in-none}
 use Rattle.search.specs.Steps.{Step, Rules}
 use Rattle.search.specs.Builds.{earlierStep, earlier, notLater, behind, sequences, leads, allGood, isWhole, First, first, nothing}
-use Rattle.search.specs.Builds.{firstOf, count, Out, found, none, counted, leastBuild}
+use Rattle.search.specs.Builds.{firstOf, Out, found, none, counted, leastBuild}
 use Rattle.search.specs.Search.{more, orElse, tried, walk, deep}
 use Rattle.search.proofs.Answering.{more-or, more-zero}
-use Rattle.search.proofs.Orders.{Before, Sorted, not-itself, one-way}
-use Rattle.search.proofs.Sequences.{sequences-sorted}
+use Rattle.search.proofs.Orders.{not-itself, one-way}
+use Rattle.search.proofs.Sequences.{sequences-increasing}
 
 -- the first of a list that has f, as what g makes of it, with how many stand up to it
 module _ (f : List Step → Bool) (g : List Step → List ℕ) where
@@ -32,39 +36,31 @@ module _ (f : List Step → Bool) (g : List Step → List ℕ) where
       go e true = refl
       go e false = ap (more 1) e ∙ sym (more-or 1 (scan xs) (scan ys))
 
-  none-later : (q : List Step) (qs : List (List Step)) → Before earlier q qs → count (λ x. notLater x q) qs ≡ 0
-  unfolding count
-  none-later q [] b = refl
-  none-later q (y ∷ ys) b = rw (b y (List·Memᴰ·head refl), none-later q ys (λ z m. b z (List·Memᴰ·tail m)))
-
   abbrev at : List (List Step) → First → Out
-  at qs (first q) = found (g q) (count (λ x. notLater x q) qs)
+  at qs (first q) = found (g q) (countIn (λ x. notLater x q) qs)
   at qs nothing = none (length qs)
 
   -- what is first stands behind what is before all
   first-behind : (x : List Step) (qs : List (List Step)) (q : List Step) → Before earlier x qs → firstOf f qs ≡ first q
       → earlier x q ≡ true
   unfolding firstOf
-  first-behind x [] q b e = absurd (let z : _≡_ {A = ℕ} 0 1 = cc in omega arith)
+  first-behind x [] q b e = never (cc)
   first-behind x (y ∷ ys) q b e = go (f y) (first-behind x ys q (λ z m. b z (List·Memᴰ·tail m))) e
     where
-      same-first : (a c : List Step) → first a ≡ first c → a ≡ c
-      same-first a c h = cc
-
       go : (t : Bool) → (firstOf f ys ≡ first q → earlier x q ≡ true) → cond t (first y) (firstOf f ys) ≡ first q → earlier x q ≡ true
-      go true h w = ap (earlier x) (sym (same-first y q w)) ∙ b y (List·Memᴰ·head refl)
+      go true h w = let v : y ≡ q = cc in rw (← v) (b y (List·Memᴰ·head refl))
       go false h w = h w
 
   -- in a list that increases, those up to the first are those that are not later
-  scan-first : (qs : List (List Step)) → Sorted earlier qs → scan qs ≡ at qs (firstOf f qs)
-  unfolding scan firstOf count more
+  scan-first : (qs : List (List Step)) → Increasing earlier qs → scan qs ≡ at qs (firstOf f qs)
+  unfolding scan firstOf countIn more
   scan-first [] s = refl
   scan-first (y ∷ ys) s = go (f y) (firstOf f ys) refl (scan-first ys (s .1))
     where
       go : (t : Bool) (o : First) → firstOf f ys ≡ o → scan ys ≡ at ys o
           → cond t (found (g y) 1) (more 1 (scan ys)) ≡ at (y ∷ ys) (cond t (first y) o)
-      go true o e h = rw (not-itself y, none-later y ys (s .0))
-      go false (first q) e h = rw (h, one-way y q (first-behind y ys q (s .0) e))
+      go true o e h = rw (not-itself y, count-in-none (λ x. notLater x y) ys (λ x m. ap not (s .0 x m)))
+      go false (first q) e h = rw (h, one-way y q (first-behind y ys q (s .0) e)) (ap (found (g q)) (omega arith))
       go false nothing e h = rw h (ap none (omega arith))
 
 -- the same test and result make the same scan, behind one more step
@@ -83,11 +79,7 @@ module _ (r : Rules) where
 
     bad-not-whole : (u : ℕ) → r .good s k ≡ false → isWhole r (suc u) s (k ∷ []) ≡ false
     unfolding isWhole allGood
-    bad-not-whole u e = rw e (no (eqb 1 (suc u)))
-      where
-        no : (x : Bool) → (x && false) ≡ false
-        no true = refl
-        no false = refl
+    bad-not-whole u e = rw (e, and-false)
 
     leads-more : (q : List Step) → leads r s (k ∷ q) ≡ leads r (r .put s k) q
     unfolding leads
@@ -137,15 +129,15 @@ module _ (r : Rules) where
   less-more (none n) = ap none (omega arith)
 
   front-counts : (u : ℕ) (s : List ℕ) (o : First) → less (at (isWhole r u s) (leads r s) ([] ∷ sequences r u s) o) ≡ counted r u s o
-  unfolding less counted count
+  unfolding less counted countIn
   front-counts u s (first []) = ap (found (leads r s [])) (omega arith)
   front-counts u s (first (k ∷ q)) = ap (found (leads r s (k ∷ q))) (omega arith)
   front-counts u s nothing = ap none (omega arith)
 
   -- the search is the definition
-  pub deep-least : ((s : List ℕ) → Sorted earlierStep (r .steps s)) → (u : ℕ) (s : List ℕ) → deep r u s ≡ leastBuild r u s
+  pub deep-least : ((s : List ℕ) → Increasing earlierStep (r .steps s)) → (u : ℕ) (s : List ℕ) → deep r u s ≡ leastBuild r u s
   unfolding leastBuild
   deep-least h u s =
       sym (less-more (deep r u s)) ∙ ap less (sym (deep-scan u s)
-      ∙ scan-first (isWhole r u s) (leads r s) ([] ∷ sequences r u s) (sequences-sorted r h u s))
+      ∙ scan-first (isWhole r u s) (leads r s) ([] ∷ sequences r u s) (sequences-increasing r h u s))
       ∙ front-counts u s (firstOf (isWhole r u s) ([] ∷ sequences r u s))

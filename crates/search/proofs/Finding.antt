@@ -9,13 +9,13 @@ use native.Mathlib.Omega.{arith}
 use native.Mathlib.Nat.{mod-add-mod, mod-self}
 use lib.ListN.{getD}
 use borrow.Author.Tests.{not-true}
+use Rattle.ground.proofs.Counting.{count-some}
 use Rattle.link.specs.Limits.{maxRows}
 use Rattle.link.specs.Rows.{Crossing, one, two, second, startAt}
 use Rattle.link.proofs.Circle.{Apart, Turned, turned}
 use Rattle.link.proofs.Meeting.{second-low, start-low}
 use Rattle.search.specs.Steps.{Step, rules, placed}
 use Rattle.search.specs.Builds.{Build, done, onward, begin}
-use Rattle.search.proofs.Counts.{one-of}
 use Rattle.search.proofs.Listing.{steps-are}
 use Rattle.search.proofs.States.{At, put-at, begin-free, begin-at}
 use Rattle.search.proofs.Completeness.{Plan, Extends, reach, touch-good, touch-extends}
@@ -25,9 +25,9 @@ module _ (p l : ℕ) (ds : List ℕ) (n : ℕ) (hl : 0 < l) (lp : l ≤ p) (hn :
       → (q : List Step) × Build (rules p l ds n) u s q
   builds zero s a A pl x = ([], done)
   builds (suc u) s a A pl x =
-      let w = one-of (λ i. not (placed p s i)) 0 n (omega (arith, a .left)) in
+      let w = count-some (λ i. not (placed p s i)) n (omega (arith, a .left)) in
       let j = w .0 in
-      let t = reach p l ds n hl lp hn s (a .first) j (omega (arith, w .2)) (not-true (placed p s j) (w .3)) (A j) A pl x (omega arith) in
+      let t = reach p l ds n hl lp hn s (a .first) j (w .1) (not-true (placed p s j) (w .2)) (A j) A pl x (omega arith) in
       let is = steps-are p n s (t .hit) (t .mem) in
       let next = builds u _ (put-at p l ds s (t .hit) n u (omega arith) is a) (t .plan) (t .clear)
       (touch-extends p l ds n hl lp hn s (a .first) (a .long) (t .plan) (t .clear) (t .extends) (t .hit) is (t .holds)) in (

@@ -8,28 +8,26 @@ use native.Mathlib.Omega.{arith}
 use lib.Dec.{eqb, eqb·suc-suc}
 use lib.ListN.{length}
 use borrow.Author.Tests.{eqb-true}
-use Rattle.ground.proofs.Bools.{clash, and-parts}
+use Rattle.ground.specs.Lists.{Increasing}
+use Rattle.ground.proofs.Bools.{clash, never, and-parts}
 use Rattle.search.specs.Steps.{Step, Rules}
-use Rattle.search.specs.Builds.{Sequence, last, onward, Build, done, earlierStep, earlier, notLater, sequences, leads, allGood}
-use Rattle.search.specs.Builds.{isWhole, First, first, nothing, firstOf, count, found, none, counted, leastBuild}
-use Rattle.search.proofs.Orders.{Sorted, not-itself, one-way}
-use Rattle.search.proofs.Sequences.{sequences-sorted, sequences-have, sequences-are}
-
-same-first : (a c : List Step) → first a ≡ first c → a ≡ c
-same-first a c h = cc
+use Rattle.search.specs.Builds.{Sequence, last, onward, Build, done, earlierStep, earlier, notLater, sequences, allGood}
+use Rattle.search.specs.Builds.{isWhole, First, first, nothing, firstOf, found, none, counted, LeastWhole, leastBuild}
+use Rattle.search.proofs.Orders.{not-itself, one-way}
+use Rattle.search.proofs.Sequences.{sequences-increasing, sequences-have, sequences-are}
 
 module _ (f : List Step → Bool) where
   first-is : (qs : List (List Step)) (q : List Step) → firstOf f qs ≡ first q → List·Memᴰ q qs × (f q ≡ true)
   unfolding firstOf
-  first-is [] q e = absurd (let z : _≡_ {A = ℕ} 0 1 = cc in omega arith)
+  first-is [] q e = never (cc)
   first-is (x ∷ qs) q e = go (f x) refl e (first-is qs q)
     where
       go : (b : Bool) → f x ≡ b → cond b (first x) (firstOf f qs) ≡ first q → (firstOf f qs ≡ first q → List·Memᴰ q qs × (f q ≡ true))
           → List·Memᴰ q (x ∷ qs) × (f q ≡ true)
-      go true z w h = let v = same-first x q w in (List·Memᴰ·head (sym v), rw (← v) z)
+      go true z w h = let v : x ≡ q = cc in (List·Memᴰ·head (sym v), rw (← v) z)
       go false z w h = let v = h w in (List·Memᴰ·tail (v .0), v .1)
 
-  first-least : (qs : List (List Step)) (q : List Step) → Sorted earlier qs → firstOf f qs ≡ first q → (x : List Step) → List·Memᴰ x qs
+  first-least : (qs : List (List Step)) (q : List Step) → Increasing earlier qs → firstOf f qs ≡ first q → (x : List Step) → List·Memᴰ x qs
       → f x ≡ true → notLater q x ≡ true
   unfolding firstOf
   first-least [] q s e x m h = absurd (List·Memᴰ·not-nil m)
@@ -37,8 +35,8 @@ module _ (f : List Step → Bool) where
     where
       go : (b : Bool) → f y ≡ b → cond b (first y) (firstOf f qs) ≡ first q → (x ≡ y) ⊎ List·Memᴰ x qs
           → (firstOf f qs ≡ first q → List·Memᴰ x qs → f x ≡ true → notLater q x ≡ true) → notLater q x ≡ true
-      go true z w (inl g) i = let v = same-first y q w in rw (g, ← v, not-itself y)
-      go true z w (inr g) i = let v = same-first y q w in rw (← v, one-way y x (s .0 x g))
+      go true z w (inl g) i = let v : y ≡ q = cc in rw (g, ← v, not-itself y)
+      go true z w (inr g) i = let v : y ≡ q = cc in rw (← v, one-way y x (s .0 x g))
       go false z w (inl g) i = clash (sym (ap f g) ∙ h) z
       go false z w (inr g) i = i w g h
 
@@ -49,7 +47,7 @@ module _ (f : List Step → Bool) where
     where
       go : (b : Bool) → f y ≡ b → cond b (first y) (firstOf f qs) ≡ nothing → (x ≡ y) ⊎ List·Memᴰ x qs
           → (firstOf f qs ≡ nothing → List·Memᴰ x qs → f x ≡ true → ⊥) → ⊥
-      go true z w c i = let v : _≡_ {A = ℕ} 0 1 = cc in omega arith
+      go true z w c i = never (cc)
       go false z w (inl g) i = clash (sym (ap f g) ∙ h) z
       go false z w (inr g) i = i w g h
 
@@ -96,47 +94,32 @@ module _ (r : Rules) where
       subst (λ (x : ℕ). Build r x s q) (w .0) (⊎-elim (λ z. rw z done) (λ h. build-of (sequences-are r u s q h .0) (w .1))
       (List·Memᴰ·cases-cons m))
 
-  -- "the least whole build", and its tests: "the non-empty step sequences .. which are not later than the answer's build"
-  pub record IsLeast (u : ℕ) (s s′ : List ℕ) (t : ℕ) : Type 0 where
-    pub steps : List Step
-    pub whole : Build r u s steps
-    pub least : (x : List Step) → Build r u s x → notLater steps x ≡ true
-    pub offsets : leads r s steps ≡ s′
-    pub tests : count (λ x. notLater x steps) (sequences r u s) ≡ t
-
-  module _ (sorted : (s : List ℕ) → Sorted earlierStep (r .steps s)) (u : ℕ) (s : List ℕ) where
+  module _ (sorted : (s : List ℕ) → Increasing earlierStep (r .steps s)) (u : ℕ) (s : List ℕ) where
     abbrev o : First
     o = firstOf (isWhole r u s) ([] ∷ sequences r u s)
 
-    pub found-least : (s′ : List ℕ) (t : ℕ) → leastBuild r u s ≡ found s′ t → IsLeast u s s′ t
+    pub found-least : (s′ : List ℕ) (t : ℕ) → leastBuild r u s ≡ found s′ t → LeastWhole r u s s′ t
     unfolding leastBuild counted
     found-least s′ t e = go o refl e
       where
-        same-found : (a c : List ℕ) (n m : ℕ) → found a n ≡ found c m → (a ≡ c) × (n ≡ m)
-        same-found a c n m h = (cc, cc)
-
-        go : (x : First) → firstOf (isWhole r u s) ([] ∷ sequences r u s) ≡ x → counted r u s x ≡ found s′ t → IsLeast u s s′ t
+        go : (x : First) → firstOf (isWhole r u s) ([] ∷ sequences r u s) ≡ x → counted r u s x ≡ found s′ t → LeastWhole r u s s′ t
         go (first q) h g =
             let w = first-is (isWhole r u s) ([] ∷ sequences r u s) q h in
-            let v = same-found _ _ _ _ g in
             record {
               steps = q;
               whole = whole-is-build u s q (w .0) (w .1);
-              least = λ x b. first-least (isWhole r u s) ([] ∷ sequences r u s) q (sequences-sorted r sorted u s) h x (build-in b)
+              least = λ x b. first-least (isWhole r u s) ([] ∷ sequences r u s) q (sequences-increasing r sorted u s) h x (build-in b)
                   (build-is-whole b);
-              offsets = v .0;
-              tests = v .1;
+              offsets = cc;
+              tests = cc;
             }
-        go nothing h g = absurd (let z : _≡_ {A = ℕ} 0 1 = cc in omega arith)
+        go nothing h g = never (cc)
 
     pub none-none : (t : ℕ) → leastBuild r u s ≡ none t → ((x : List Step) → Build r u s x → ⊥) × (length (sequences r u s) ≡ t)
     unfolding leastBuild counted
     none-none t e = go o refl e
       where
-        same-none : (n m : ℕ) → none n ≡ none m → n ≡ m
-        same-none n m h = cc
-
         go : (x : First) → firstOf (isWhole r u s) ([] ∷ sequences r u s) ≡ x → counted r u s x ≡ none t
             → ((x : List Step) → Build r u s x → ⊥) × (length (sequences r u s) ≡ t)
-        go (first q) h g = absurd (let z : _≡_ {A = ℕ} 0 1 = cc in omega arith)
-        go nothing h g = (λ x b. none-first (isWhole r u s) ([] ∷ sequences r u s) h x (build-in b) (build-is-whole b), same-none _ _ g)
+        go (first q) h g = never (cc)
+        go nothing h g = (λ x b. none-first (isWhole r u s) ([] ∷ sequences r u s) h x (build-in b) (build-is-whole b), cc)

@@ -1,4 +1,5 @@
 -- The laws behind the contracts of `search`, and its promises.
+pub mod Accepted
 pub mod Blocking
 pub mod Numbers
 pub mod Reducing
@@ -7,7 +8,6 @@ pub mod Orders
 pub mod Listing
 pub mod Sequences
 pub mod Counting
-pub mod Counts
 pub mod Moving
 pub mod States
 pub mod Completeness
@@ -19,8 +19,8 @@ pub mod Answering
 pub mod Trying
 pub mod Looping
 pub mod Planning
-pub mod Judging
-pub mod Reading
+pub mod Contacts
+pub mod AllSequences
 pub mod Verdicts
 pub mod Thinning
 pub mod Meaning

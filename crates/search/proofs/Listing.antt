@@ -3,40 +3,17 @@ use mathlib.Core.Path.{_≡_, refl}
 use mathlib.Core.Logic.{⊎-elim}
 use mathlib.Core.Bool.{Bool, true, false, _&&_, not, cond}
 use mathlib.Core.List.{List, [], _∷_, List·Memᴰ, List·Memᴰ·head, List·Memᴰ·tail, List·Memᴰ·cases-cons, List·Memᴰ·not-nil}
-use mathlib.Core.List.{List·Memᴰ·append-cases, Memᴰ·append-left, Memᴰ·append-right}
-use Prim.Native.Nat.{ℕ, zero, suc, _+_, _<_, _≤_}
+use Prim.Native.Nat.{ℕ, _<_}
 use native.Mathlib.Omega.{arith}
 use lib.Dec.{ltb}
 use borrow.Author.Tests.{lt-ltb, ltb-true, not-true}
 use Rattle.link.specs.Rows.{Crossing, one, two}
-use Rattle.ground.proofs.Bools.{lt-or-ge, and-parts}
-use Rattle.search.specs.Steps.{Step, step, placed, from, besides, rowSteps, steps, isStep}
+use Rattle.ground.specs.Lists.{from, Increasing}
+use Rattle.ground.proofs.Bools.{and-parts}
+use Rattle.ground.proofs.Lists.{in-from, from-in, increasing-one, from-increasing}
+use Rattle.search.specs.Steps.{Step, step, placed, besides, rowSteps, steps, isStep}
 use Rattle.search.specs.Builds.{earlierStep}
-use Rattle.search.proofs.Orders.{Sorted, sorted-append, sorted-one, row-first, beside-first, crossing-first}
-
-module _ {A : Type 0} (f : ℕ → List A) where
-  pub in-from : (a m i : ℕ) (x : A) → a ≤ i → i < a + m → List·Memᴰ x (f i) → List·Memᴰ x (from f a m)
-  unfolding from
-  in-from a zero i x h l e = absurd (omega arith)
-  in-from a (suc m) i x h l e =
-      ⊎-elim (λ q. Memᴰ·append-right (f a) (in-from (suc a) m i x (omega arith) (omega arith) e))
-      (λ q. let z : i ≡ a = omega arith in Memᴰ·append-left (from f (suc a) m) (rw z at e)) (lt-or-ge a i)
-
-  pub from-in : (a m : ℕ) (x : A) → List·Memᴰ x (from f a m) → (i : ℕ) × (a ≤ i) × (i < a + m) × List·Memᴰ x (f i)
-  unfolding from
-  from-in a zero x e = absurd (List·Memᴰ·not-nil e)
-  from-in a (suc m) x e =
-      ⊎-elim (λ q. (a, omega arith, omega arith, q))
-      (λ q. let w = from-in (suc a) m x q in (w .0, omega (arith, w .1), omega (arith, w .2), w .3)) (List·Memᴰ·append-cases (f a) e)
-
-  pub from-sorted : (lt : A → A → Bool) → ((i : ℕ) → Sorted lt (f i))
-      → ((i j : ℕ) → i < j → (x y : A) → List·Memᴰ x (f i) → List·Memᴰ y (f j) → lt x y ≡ true)
-      → (a m : ℕ) → Sorted lt (from f a m)
-  unfolding from
-  from-sorted lt s h a zero = tt
-  from-sorted lt s h a (suc m) =
-      sorted-append lt (f a) (from f (suc a) m) (s a) (from-sorted lt s h (suc a) m)
-      (λ x e y g. let w = from-in (suc a) m y g in h a (w .0) (omega (arith, w .1)) x y e (w .3))
+use Rattle.search.proofs.Orders.{row-first, beside-first, crossing-first}
 
 module _ (p : ℕ) (s : List ℕ) (j : ℕ) where
   beside-in : (i : ℕ) (c : Crossing) → placed p s i ≡ true → List·Memᴰ (step j i c) (besides p s j i)
@@ -61,14 +38,14 @@ module _ (p : ℕ) (s : List ℕ) (j : ℕ) where
           (List·Memᴰ·cases-cons h)
       go false e h = absurd (List·Memᴰ·not-nil h)
 
-  beside-sorted : (i : ℕ) → Sorted earlierStep (besides p s j i)
+  beside-increasing : (i : ℕ) → Increasing earlierStep (besides p s j i)
   unfolding besides
-  beside-sorted i = go (placed p s i)
+  beside-increasing i = go (placed p s i)
     where
-      go : (b : Bool) → Sorted earlierStep (cond b (step j i one ∷ step j i two ∷ []) [])
+      go : (b : Bool) → Increasing earlierStep (cond b (step j i one ∷ step j i two ∷ []) [])
       go true = (
         λ y m. ⊎-elim (λ q. rw q (crossing-first j i)) (λ q. absurd (List·Memᴰ·not-nil q)) (List·Memᴰ·cases-cons m),
-        sorted-one earlierStep (step j i two),
+        increasing-one earlierStep (step j i two),
       )
       go false = tt
 
@@ -97,21 +74,21 @@ module _ (p n : ℕ) (s : List ℕ) where
           let w = from-in (besides p s j) 0 n k h in
           record { free = e; other = w .0; low = omega (arith, w .2); at = in-beside p s j (w .0) k (w .3) }
 
-  row-sorted : (j : ℕ) → Sorted earlierStep (rowSteps p n s j)
+  row-increasing : (j : ℕ) → Increasing earlierStep (rowSteps p n s j)
   unfolding rowSteps
-  row-sorted j = go (placed p s j)
+  row-increasing j = go (placed p s j)
     where
-      go : (b : Bool) → Sorted earlierStep (cond b [] (from (besides p s j) 0 n))
+      go : (b : Bool) → Increasing earlierStep (cond b [] (from (besides p s j) 0 n))
       go true = tt
-      go false = from-sorted (besides p s j) earlierStep (beside-sorted p s j) (besides-apart p s j) 0 n
+      go false = from-increasing (besides p s j) earlierStep (beside-increasing p s j) (besides-apart p s j) 0 n
 
   rows-apart : (i l : ℕ) → i < l → (x y : Step) → List·Memᴰ x (rowSteps p n s i) → List·Memᴰ y (rowSteps p n s l) → earlierStep x y ≡ true
   rows-apart i l h x y a b = let u = in-row i x a in let v = in-row l y b in rw (u .at .is, v .at .is) (row-first _ _ h)
 
   -- "Steps are ordered by j, then i, then crossing."
-  pub steps-sorted : Sorted earlierStep (steps p n s)
+  pub steps-increasing : Increasing earlierStep (steps p n s)
   unfolding steps
-  steps-sorted = from-sorted (rowSteps p n s) earlierStep row-sorted rows-apart 0 n
+  steps-increasing = from-increasing (rowSteps p n s) earlierStep row-increasing rows-apart 0 n
 
   -- "A step names a row j not yet placed, a placed row i, and a crossing (1 or 2).": each such step is in the list, and nothing else
   pub steps-have : (k : Step) → isStep p n s k ≡ true → List·Memᴰ k (steps p n s)

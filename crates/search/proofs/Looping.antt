@@ -11,7 +11,7 @@ use Rattle.search.specs.Numbering.{stepAt, Next}
 use Rattle.search.specs.Search.{more, orElse, tried, walk, deep, Answered, Table, Starts}
 use Rattle.search.specs.declared.Hunt.{Hunt}
 use Rattle.search.specs.declared.Hunt.the-variants.{Found, Nothing, Spent}
-use Rattle.search.proofs.Answering.{ended, all-placed, broke, more-or, is-nothing, is-spent, or-found, or-spent, or-next}
+use Rattle.search.proofs.Answering.{ended, all-placed, broke, more-or, ends, or-found, or-spent, or-next}
 use Rattle.search.proofs.Numbers.{stepsFrom, none-from, step-from, next-from, all-from}
 
 pub whole : (r : Rules) (v : ℕ) (s : List ℕ) (l : ℕ) → v ≡ 0 → Answered l s (deep r v s) (Found l) s
@@ -89,14 +89,14 @@ module _ (p l : ℕ) (ds : List ℕ) (n : ℕ) (t : Table p l ds n) (v : ℕ) (s
         pub one-runs-out : Answered left xs (here xs) Spent s′ → Answered budget s (deep (rules p l ds n) v s) Spent s′
         one-runs-out a =
             let b = rw (g .same) at a in
-            rw (is-spent left s s′ (here s) b .1) (both Spent s (or-spent left s s′ (here s) later b))
+            rw (ends left s s′ (here s) Spent b .same) (both Spent s (or-spent left s s′ (here s) later b))
 
         pub one-in-vain : (m : ℕ) (ys′ : List ℕ) (k′ : ℕ) → Answered left xs (here xs) (Nothing m) s′ → Starts p ds n s′ ys′
             → Next p n s′ (k + 1) k′
             → Going p l ds n v budget s s′ ys′ m k′
         one-in-vain m ys′ k′ a st x =
             let b : Answered left s (here s) (Nothing m) s′ = rw (g .same) at a in
-            let e : s′ ≡ s = is-nothing left s s′ (here s) m b .4 in
+            let e : s′ ≡ s = ends left s s′ (here s) (Nothing m) b .same in
             record {
               same = e;
               starts = st;

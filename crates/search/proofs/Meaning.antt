@@ -1,6 +1,5 @@
 -- A choice of offsets for all rows is clear exactly where there is a whole build, and the search finds one exactly then. Assumes nothing.
 use mathlib.Core.Path.{_≡_, refl}
-use mathlib.Core.Logic.{_↔_}
 use mathlib.Core.List.{List}
 use Prim.Native.Nat.{ℕ, _-_, _≤_}
 use native.Mathlib.Omega.{arith}
@@ -11,15 +10,16 @@ use Rattle.link.specs.Rows.{spanOf}
 use Rattle.link.specs.declared.Link.{Link}
 use Rattle.search.specs.Steps.{Step, rules}
 use Rattle.search.specs.Builds.{Out, found, none, notLater, sequences, leads, begin, planned, rulesOf}
-use Rattle.search.specs.Builds.{WholeBuild}
+use Rattle.search.specs.Builds.{WholeBuild, LeastWholeOf}
 use Rattle.search.specs.Ceilings.{ceilingOf}
 use Rattle.search.specs.Answer.{ClearChoice}
+use Rattle.ground.proofs.Counting.{count-in-low}
 use Rattle.search.proofs.Answering.{tests}
-use Rattle.search.proofs.Bounds.{count-most, below-ceiling}
+use Rattle.search.proofs.Bounds.{below-ceiling}
 use Rattle.search.proofs.Completeness.{Plan}
 use Rattle.search.proofs.Finding.{complete}
-use Rattle.search.proofs.Least.{IsLeast, found-least, none-none}
-use Rattle.search.proofs.Listing.{steps-sorted}
+use Rattle.search.proofs.Least.{found-least, none-none}
+use Rattle.search.proofs.Listing.{steps-increasing}
 use Rattle.search.proofs.Soundness.{sound, all-placed, begin-okay, clear-of, plan-of}
 use Rattle.search.proofs.States.{placed-low, begin-at}
 
@@ -52,20 +52,12 @@ module _ (k : Link) (ds : List ℕ) (g : GoodTable k ds) where
   pub choice-plan : (os : List ℕ) → ClearChoice k ds os → Plan (k .period) (spanOf k) ds (length ds) (λ i. getD os i 0)
   choice-plan os c = plan-of p l ds (g .period-low) (g .span-high) os (c .inside) (c .clear)
 
-  -- "Demand 3 speaks of all offsets 0 to P-1 for all rows, not of builds": a choice of them is clear exactly where there is a whole build
-  pub clear-exactly-build : ((os : List ℕ) × ClearChoice k ds os) ↔ ((q : List Step) × WholeBuild k ds q)
-  clear-exactly-build = (
-    λ w. plan-build (λ i. getD (w .0) i 0) (choice-plan (w .0) (w .1)),
-    λ b.
-        (take n (leads (rules p l ds n) (begin p) (b .0)), build-clear (b .0) (b .1)),
-  )
-
   -- no plan, as offsets of rows, is there where the search finds none
   pub no-plan : (t : ℕ) → planned k ds ≡ none t → (A : ℕ → ℕ) → Plan (k .period) (spanOf k) ds (length ds) A → ⊥
-  no-plan t e A a = let b = plan-build A a in none-none (rulesOf k ds) (steps-sorted p n) (n - 1) (begin p) t e .0 (b .0) (b .1)
+  no-plan t e A a = let b = plan-build A a in none-none (rulesOf k ds) (steps-increasing p n) (n - 1) (begin p) t e .0 (b .0) (b .1)
 
-  pub least-at : (s : List ℕ) (t : ℕ) → planned k ds ≡ found s t → IsLeast (rulesOf k ds) (length ds - 1) (begin (k .period)) s t
-  least-at s t e = found-least (rulesOf k ds) (steps-sorted p n) (n - 1) (begin p) s t e
+  pub least-at : (s : List ℕ) (t : ℕ) → planned k ds ≡ found s t → LeastWholeOf k ds s t
+  least-at s t e = found-least (rulesOf k ds) (steps-increasing p n) (n - 1) (begin p) s t e
 
   pub found-clear : (s : List ℕ) (t : ℕ) → planned k ds ≡ found s t → ClearChoice k ds (take (length ds) s)
   found-clear s t e = let b = least-at s t e in rw (b .offsets) at (build-clear (b .steps) (b .whole))
@@ -78,13 +70,13 @@ module _ (k : Link) (ds : List ℕ) (g : GoodTable k ds) where
       go (found s t) e = let b = least-at s t e in omega (
         arith,
         b .tests,
-        count-most (λ x. notLater x (b .steps))
+        count-in-low (λ x. notLater x (b .steps))
             (sequences (rules p l ds n) (n - 1) (begin p)),
         below-ceiling p l ds n (g .period-low) (g .rows-low) (g .rows-high),
       )
       go (none t) e = omega (
         arith,
-        none-none (rulesOf k ds) (steps-sorted p n) (n - 1) (begin p) t e .1,
+        none-none (rulesOf k ds) (steps-increasing p n) (n - 1) (begin p) t e .1,
         below-ceiling p l ds n
             (g .period-low) (g .rows-low) (g .rows-high),
       )

@@ -1,83 +1,61 @@
 -- What a move by one slot does to two starts that are apart, and where a step puts its row. Assumes nothing.
 use mathlib.Core.Path.{_≡_, refl, sym, ap, _∙_}
-use mathlib.Core.Logic.{_⊎_, inl, inr}
+use mathlib.Core.Logic.{inl, inr}
 use mathlib.Core.Bool.{false, not}
 use Prim.Native.Nat.{ℕ, suc, _+_, _-_, _%_, _<_, _≤_}
 use native.Mathlib.Omega.{arith}
-use native.Mathlib.Nat.{mod-lt, mod-eq-of-lt, mod-add-mod, add-mod-mod, add-mod-right, suc-mod}
+use native.Mathlib.Nat.{mod-lt, mod-eq-of-lt, suc-mod}
 use borrow.Author.Tests.{not-false}
 use Rattle.link.specs.Slots.{meets, Meet, apartb}
 use Rattle.link.specs.Rows.{Crossing, one, two, second, startAt}
 use Rattle.ground.proofs.Bools.{clash, is-false}
+use Rattle.ground.proofs.Remainders.{there-and-back, back-and-there}
 use Rattle.link.proofs.Circle.{Apart, Turned, turned, apart-parts, apart-true, meets-apart, meets-true, meets-slot}
 use Rattle.search.specs.Steps.{after, offsetOf}
-
--- r is the slot before a
-abbrev pub Back : ℕ → ℕ → ℕ → Type 0
-Back p a r = (r + 1 ≡ a) ⊎ ((a ≡ 0) × (r + 1 ≡ p))
 
 pub apart-sym : (p l a b : ℕ) → Apart p l a b → Apart p l b a
 apart-sym p l a b w = omega arith
 
 -- both starts one slot back
-pub apart-both : (p l a b a′ b′ : ℕ) → 0 < l → a < p → b < p → Apart p l a b → Back p a a′ → Back p b b′ → Apart p l a′ b′
+pub apart-both : (p l a b a′ b′ : ℕ) → 0 < l → a′ < p → b′ < p → Apart p l a b → Turned p (suc a′) a → Turned p (suc b′) b
+    → Apart p l a′ b′
 apart-both p l a b a′ b′ h i j w (inl x) (inl y) = omega arith
 apart-both p l a b a′ b′ h i j w (inl x) (inr y) = omega arith
 apart-both p l a b a′ b′ h i j w (inr x) (inl y) = omega arith
 apart-both p l a b a′ b′ h i j w (inr x) (inr y) = omega arith
 
 -- the second one slot back, if it does not stand right after the first
-pub apart-one : (p l a b b′ : ℕ) → 0 < l → l ≤ p → a < p → b < p → Apart p l a b → Back p b b′ → (b ≡ after p l a → ⊥) → Apart p l a b′
+pub apart-one : (p l a b b′ : ℕ) → 0 < l → l ≤ p → a < p → b′ < p → Apart p l a b → Turned p (suc b′) b → (b ≡ after p l a → ⊥)
+    → Apart p l a b′
 unfolding after
 apart-one p l a b b′ h k i j w y n = go (turned p (a + l) (omega arith)) n y
   where
-    go : {r : ℕ} → Turned p (a + l) r → (b ≡ r → ⊥) → Back p b b′ → Apart p l a b′
+    go : {r : ℕ} → Turned p (a + l) r → (b ≡ r → ⊥) → Turned p (suc b′) b → Apart p l a b′
     go (inl u) m (inl x) = omega arith
     go (inl u) m (inr x) = omega arith
     go (inr u) m (inl x) = omega arith
     go (inr u) m (inr x) = omega arith
 
 -- a row one slot back is one slot back in both crossings
-pub start-back : (p : ℕ) (c : Crossing) (d a : ℕ) → suc a < p → Back p (startAt p c d (suc a)) (startAt p c d a)
+pub start-back : (p : ℕ) (c : Crossing) (d a : ℕ) → suc a < p → Turned p (suc (startAt p c d a)) (startAt p c d (suc a))
 unfolding second
-start-back p one d a h = inl (omega arith)
+start-back p one d a h = inl (h, refl)
 start-back p two d a h =
     let e : suc a + d ≡ suc (a + d) = omega arith in
-    let q : (suc a + d) % p ≡ suc ((a + d) % p) % p = ap (λ (x : ℕ). x % p) e ∙ suc-mod (a + d) p in
-    let l = mod-lt (a + d) (pos h) in
-    rw q (go ((a + d) % p) l (turned p (suc ((a + d) % p)) (omega arith)))
-  where
-    pos : {x : ℕ} → x < p → 0 < p
-    pos k = omega arith
-
-    go : (x : ℕ) → x < p → {r : ℕ} → Turned p (suc x) r → Back p r x
-    go x l (inl u) = inl (omega arith)
-    go x l (inr u) = inr (omega arith)
+    let some : 0 < p = omega arith in
+    rw (e, suc-mod (a + d) p) (turned p (suc ((a + d) % p)) (omega (arith, mod-lt (a + d) some)))
 
 module _ (p : ℕ) (some : 0 < p) where
-  there-and-back : (d x : ℕ) → ((x + d) % p + (p - d % p)) % p ≡ x % p
-  there-and-back d x =
-      let l = mod-lt d some in
-      let e : x + d % p + (p - d % p) ≡ x + p = omega arith in
-      ap (λ (y : ℕ). (y + (p - d % p)) % p) (sym (add-mod-mod x d p)) ∙ mod-add-mod (x + d % p) p (p - d % p) ∙ ap (λ (y : ℕ). y % p) e
-      ∙ add-mod-right x p
-
-  back-and-there : (d x : ℕ) → ((x + (p - d % p)) % p + d) % p ≡ x % p
-  back-and-there d x =
-      let l = mod-lt d some in
-      let e : x + (p - d % p) + d % p ≡ x + p = omega arith in
-      mod-add-mod (x + (p - d % p)) p d ∙ sym (add-mod-mod (x + (p - d % p)) d p) ∙ ap (λ (y : ℕ). y % p) e ∙ add-mod-right x p
-
   -- a row that starts at x has that offset, and no other
   pub offset-start : (c : Crossing) (d a : ℕ) → a < p → offsetOf p c d (startAt p c d a) ≡ a
   unfolding offsetOf second
   offset-start one d a h = refl
-  offset-start two d a h = there-and-back d a ∙ mod-eq-of-lt h
+  offset-start two d a h = there-and-back p some d a ∙ mod-eq-of-lt h
 
   pub start-offset : (c : Crossing) (d x : ℕ) → x < p → startAt p c d (offsetOf p c d x) ≡ x
   unfolding offsetOf second
   start-offset one d x h = refl
-  start-offset two d x h = back-and-there d x ∙ mod-eq-of-lt h
+  start-offset two d x h = back-and-there p some d x ∙ mod-eq-of-lt h
 
   pub offset-low : (c : Crossing) (d x : ℕ) → x < p → offsetOf p c d x < p
   unfolding offsetOf

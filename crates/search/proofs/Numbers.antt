@@ -2,37 +2,35 @@
 -- numbers 0, 1, .. Nothing above this file looks at the numbers. Assumes nothing.
 use mathlib.Core.Path.{_≡_, refl, sym, ap, _∙_}
 use mathlib.Core.Logic.{⊎-elim}
-use mathlib.Core.Bool.{Bool, true, false, _&&_, not, cond}
-use mathlib.Core.List.{List, [], _∷_, _++_, append-assoc, append-nil}
+use mathlib.Core.Bool.{Bool, true, false, _&&_, not, cond, and-false}
+use mathlib.Core.List.{List, [], _∷_, _++_, append-nil}
 use Prim.Native.Nat.{ℕ, zero, suc, _+_, _-_, _*_, _<_, _≤_, _/_, _%_}
 use native.Mathlib.Omega.{arith}
 use native.Mathlib.Numerals.{add-one}
 use lib.Dec.{ltb}
 use lib.ListN.{getD}
-use native.Mathlib.Nat.{mod-eq-of-lt, zero-mul, suc-mul, add-comm}
+use native.Mathlib.Nat.{mod-eq-of-lt}
 use borrow.Author.Tests.{lt-ltb, le-ltb, ltb-true, ltb-false, not-true}
 use Rattle.link.specs.Limits.{maxRows}
 use Rattle.link.specs.Rows.{one, two, second, start}
+use Rattle.ground.specs.Lists.{from}
 use Rattle.ground.proofs.Bools.{lt-or-ge, and-parts}
-use Rattle.search.specs.Steps.{Step, step, placed, from, besides, rowSteps, steps, puts, offsetOf, after, isStep}
+use Rattle.ground.proofs.Lists.{from-cong, from-nothing, from-append, from-shift, from-blocks}
+use Rattle.search.specs.Steps.{Step, step, placed, besides, rowSteps, steps, puts, offsetOf, after, isStep}
 use Rattle.search.specs.Numbering.{stepAt, Next}
-
-and-no : (x : Bool) → (x && false) ≡ false
-and-no true = refl
-and-no false = refl
 
 module _ (p n : ℕ) (s : List ℕ) (k : ℕ) where
   row-placed : getD s (k / (2 * maxRows)) 0 < p → isStep p n s (stepAt k) ≡ false
   unfolding isStep stepAt placed
-  row-placed h = rw (lt-ltb _ p h, and-no)
+  row-placed h = rw (lt-ltb _ p h, and-false)
 
   beside-out : n ≤ k / 2 % maxRows → isStep p n s (stepAt k) ≡ false
   unfolding isStep stepAt
-  beside-out h = rw (le-ltb _ n h, and-no)
+  beside-out h = rw (le-ltb _ n h, and-false)
 
   beside-free : p ≤ getD s (k / 2 % maxRows) 0 → isStep p n s (stepAt k) ≡ false
   unfolding isStep stepAt placed
-  beside-free h = simp (le-ltb (getD s (k / 2 % maxRows) 0) p h, and-no)
+  beside-free h = simp (le-ltb (getD s (k / 2 % maxRows) 0) p h, and-false)
 
   pub is-step : k / (2 * maxRows) < n → k / 2 % maxRows < n → p ≤ getD s (k / (2 * maxRows)) 0 → getD s (k / 2 % maxRows) 0 < p
       → isStep p n s (stepAt k) ≡ true
@@ -93,28 +91,28 @@ module _ (p l : ℕ) (ds s : List ℕ) (k : ℕ) where
   puts-two o h x y z ex ey ez = let e : k % 2 ≡ 1 = omega arith in rw (e, mod-eq-of-lt h, ← ex, ← ey) ez
 
 -- the steps from a number on
-numbered : ℕ → ℕ → List ℕ → ℕ → List Step
-numbered p n s k = cond (isStep p n s (stepAt k)) (stepAt k ∷ []) []
+stepOf : ℕ → ℕ → List ℕ → ℕ → List Step
+stepOf p n s k = cond (isStep p n s (stepAt k)) (stepAt k ∷ []) []
 
 pub stepsFrom : ℕ → ℕ → List ℕ → ℕ → List Step
-stepsFrom p n s k = from (numbered p n s) k (n * (2 * maxRows) - k)
+stepsFrom p n s k = from (stepOf p n s) k (n * (2 * maxRows) - k)
 
 module _ (p n : ℕ) (s : List ℕ) where
   pub none-from : (k : ℕ) → n * (2 * maxRows) ≤ k → stepsFrom p n s k ≡ []
   unfolding stepsFrom from
   none-from k h = let e : n * (2 * maxRows) - k ≡ 0 = omega arith in rw (e, from)
 
-  one-from : (k : ℕ) → k < n * (2 * maxRows) → stepsFrom p n s k ≡ numbered p n s k ++ stepsFrom p n s (suc k)
+  one-from : (k : ℕ) → k < n * (2 * maxRows) → stepsFrom p n s k ≡ stepOf p n s k ++ stepsFrom p n s (suc k)
   unfolding stepsFrom from
   one-from k h = let e : n * (2 * maxRows) - k ≡ suc (n * (2 * maxRows) - suc k) = omega arith in rw (e, from)
 
   pub step-from : (k : ℕ) → k < n * (2 * maxRows) → isStep p n s (stepAt k) ≡ true
       → stepsFrom p n s k ≡ stepAt k ∷ stepsFrom p n s (k + 1)
-  unfolding numbered
+  unfolding stepOf
   step-from k h e = rw (one-from k h, e, add-one)
 
   skip-from : (k d : ℕ) → k + d ≤ n * (2 * maxRows) → Skipped p n s k (k + d) → stepsFrom p n s k ≡ stepsFrom p n s (k + d)
-  unfolding numbered
+  unfolding stepOf
   skip-from k zero h f = let e : k + 0 ≡ k = omega arith in rw e
   skip-from k (suc d) h f =
       let e : suc k + d ≡ k + suc d = omega arith in
@@ -125,38 +123,6 @@ module _ (p n : ℕ) (s : List ℕ) where
   next-from k m x =
       let e : k + (m - k) ≡ m = omega (arith, x .low) in
       rw e at (skip-from k (m - k) (omega (arith, x .low, x .high)) (λ i a b. x .skipped i a (omega (arith, x .low))))
-
-module _ {A : Type 0} where
-  from-cong : (f g : ℕ → List A) (a m : ℕ) → ((i : ℕ) → a ≤ i → i < a + m → f i ≡ g i) → from f a m ≡ from g a m
-  unfolding from
-  from-cong f g a zero h = refl
-  from-cong f g a (suc m) h = rw (h a (omega arith) (omega arith), from-cong f g (suc a) m (λ i l k. h i (omega arith) (omega arith)))
-
-  from-nothing : (f : ℕ → List A) (a m : ℕ) → ((i : ℕ) → a ≤ i → f i ≡ []) → from f a m ≡ []
-  unfolding from
-  from-nothing f a zero h = refl
-  from-nothing f a (suc m) h = rw (h a (omega arith), from-nothing f (suc a) m (λ i l. h i (omega arith)))
-
-  from-append : (f : ℕ → List A) (a m k : ℕ) → from f a (m + k) ≡ from f a m ++ from f (a + m) k
-  unfolding from
-  from-append f a zero k = let e : 0 + k ≡ k = omega arith in let q : a + 0 ≡ a = omega arith in rw (e, q)
-  from-append f a (suc m) k =
-      let e : suc m + k ≡ suc (m + k) = omega arith in
-      let q : a + suc m ≡ suc a + m = omega arith in
-      rw (e, q, append-assoc) (ap (_++_ (f a)) (from-append f (suc a) m k))
-
-  from-shift : (f : ℕ → List A) (b a m : ℕ) → from f (b + a) m ≡ from (λ i. f (b + i)) a m
-  unfolding from
-  from-shift f b a zero = refl
-  from-shift f b a (suc m) = let e : suc (b + a) ≡ b + suc a = omega arith in rw e (ap (_++_ (f (b + a))) (from-shift f b (suc a) m))
-
-  -- w numbers at a time
-  from-blocks : (f : ℕ → List A) (w a m : ℕ) → from f (a * w) (m * w) ≡ from (λ i. from f (i * w) w) a m
-  unfolding from
-  from-blocks f w a zero = rw (zero-mul w)
-  from-blocks f w a (suc m) =
-      rw (suc-mul m w, add-comm (m * w) w, from-append f (a * w) w (m * w), ← suc-mul a w)
-      (ap (_++_ (from f (a * w) w)) (from-blocks f w (suc a) m))
 
 module _ (p n : ℕ) (few : n ≤ maxRows) (s : List ℕ) where
   number-one : (j i : ℕ) → i < maxRows → stepAt ((j * maxRows + i) * 2) ≡ step j i one
@@ -179,8 +145,8 @@ module _ (p n : ℕ) (few : n ≤ maxRows) (s : List ℕ) where
   pair : ℕ → ℕ → List Step
   pair j i = cond (ltb i n) (cond (placed p s j) [] (besides p s j i)) []
 
-  pair-from : (j i : ℕ) → j < n → i < maxRows → from (numbered p n s) ((j * maxRows + i) * 2) 2 ≡ pair j i
-  unfolding from numbered pair besides isStep
+  pair-from : (j i : ℕ) → j < n → i < maxRows → from (stepOf p n s) ((j * maxRows + i) * 2) 2 ≡ pair j i
+  unfolding from stepOf pair besides isStep
   pair-from j i h k = rw (number-one j i k, number-two j i k, lt-ltb j n h) (go (ltb i n) (placed p s j) (placed p s i))
     where
       go : (x y z : Bool) → cond (x && (not y && z)) (step j i one ∷ []) [] ++ (cond (x && (not y && z)) (step j i two ∷ []) [] ++ [])
@@ -190,15 +156,15 @@ module _ (p n : ℕ) (few : n ≤ maxRows) (s : List ℕ) where
       go true false false = refl
       go false y z = refl
 
-  row-from : (j : ℕ) → j < n → from (numbered p n s) (j * (2 * maxRows)) (2 * maxRows) ≡ rowSteps p n s j
+  row-from : (j : ℕ) → j < n → from (stepOf p n s) (j * (2 * maxRows)) (2 * maxRows) ≡ rowSteps p n s j
   unfolding rowSteps pair
   row-from j h =
       let e : j * (2 * maxRows) ≡ j * maxRows * 2 = omega arith in
       let q : j * maxRows ≡ j * maxRows + 0 = omega arith in
       rw e
-      (from-blocks (numbered p n s) 2 (j * maxRows) maxRows
-      ∙ ap (λ (x : ℕ). from (λ i. from (numbered p n s) (i * 2) 2) x maxRows) q
-      ∙ from-shift (λ i. from (numbered p n s) (i * 2) 2) (j * maxRows) 0 maxRows
+      (from-blocks (stepOf p n s) 2 (j * maxRows) maxRows
+      ∙ ap (λ (x : ℕ). from (λ i. from (stepOf p n s) (i * 2) 2) x maxRows) q
+      ∙ from-shift (λ i. from (stepOf p n s) (i * 2) 2) (j * maxRows) 0 maxRows
       ∙ from-cong _ (pair j) 0 maxRows (λ i a b. pair-from j i h b)
       ∙ go (placed p s j) refl)
     where
@@ -222,4 +188,4 @@ module _ (p n : ℕ) (few : n ≤ maxRows) (s : List ℕ) where
   unfolding steps stepsFrom
   all-from =
       let e : n * (2 * maxRows) - 0 ≡ n * (2 * maxRows) = omega arith in
-      rw e (sym (from-blocks (numbered p n s) (2 * maxRows) 0 n ∙ from-cong _ (rowSteps p n s) 0 n (λ j a b. row-from j (omega arith))))
+      rw e (sym (from-blocks (stepOf p n s) (2 * maxRows) 0 n ∙ from-cong _ (rowSteps p n s) 0 n (λ j a b. row-from j (omega arith))))

@@ -1,10 +1,8 @@
--- Lists that strictly increase; and the order of steps: of two steps one is earlier, or they are the same, whatever follows.
--- Assumes nothing.
+-- The order of steps: of two steps one is earlier, or they are the same, whatever follows. Assumes nothing.
 use mathlib.Core.Path.{_≡_, refl, sym, _∙_}
 use mathlib.Core.Logic.{⊎-elim}
 use mathlib.Core.Bool.{Bool, true, false}
-use mathlib.Core.List.{List, [], _∷_, _++_, List·Memᴰ, List·Memᴰ·head, List·Memᴰ·tail, List·Memᴰ·not-nil}
-use mathlib.Core.List.{List·Memᴰ·append-cases}
+use mathlib.Core.List.{List, [], _∷_}
 use Prim.Native.Nat.{ℕ, _<_}
 use native.Mathlib.Omega.{arith}
 use borrow.Author.Tests.{lt-ltb, le-ltb, eq-eqb, ne-eqb}
@@ -12,25 +10,6 @@ use Rattle.link.specs.Rows.{Crossing, one, two}
 use Rattle.ground.proofs.Bools.{clash, lt-or-ge}
 use Rattle.search.specs.Steps.{Step}
 use Rattle.search.specs.Builds.{order, orderSteps, earlierStep, earlier}
-
--- x is before each of a list; each element of a list is before all that follow
-module _ {A : Type 0} (lt : A → A → Bool) where
-  abbrev pub Before : A → List A → Type 0
-  Before x ys = (y : A) → List·Memᴰ y ys → lt x y ≡ true
-
-  abbrev pub Sorted : List A → Type 0
-  Sorted [] = Unit {0}
-  Sorted (x ∷ xs) = Before x xs × Sorted xs
-
-  pub sorted-append : (xs ys : List A) → Sorted xs → Sorted ys → ((x : A) → List·Memᴰ x xs → Before x ys) → Sorted (xs ++ ys)
-  sorted-append [] ys a b h = b
-  sorted-append (x ∷ xs) ys a b h = (
-    λ y m. ⊎-elim (λ l. a .0 y l) (λ r. h x (List·Memᴰ·head refl) y r) (List·Memᴰ·append-cases xs m),
-    sorted-append xs ys (a .1) b (λ z m. h z (List·Memᴰ·tail m)),
-  )
-
-  pub sorted-one : (x : A) → Sorted (x ∷ [])
-  sorted-one x = (λ y m. absurd (List·Memᴰ·not-nil m), tt)
 
 -- how two things stand to each other: the one first, on a level, the other first
 data Way (f g : Bool → Bool) : Type 0 where

@@ -1,25 +1,26 @@
 -- From the search to the answer. Assumes nothing.
 use mathlib.Core.Path.{_≡_, sym, ap, _∙_}
-use mathlib.Core.List.{List, _∷_, _++_}
+use mathlib.Core.List.{List, _∷_}
 use Prim.Native.Nat.{ℕ, zero, suc, _+_, _-_, _%_, _<_, _≤_}
 use native.Mathlib.Omega.{arith}
 use native.Mathlib.Nat.{mod-lt, mod-eq-of-lt}
-use lib.ListN.{length, getD, take, drop, replicate, length-replicate, getD-replicate}
-use lib.Seq.{length-take-le}
+use lib.ListN.{length, getD, take, replicate, length-replicate, getD-replicate}
 use borrow.Author.Tests.{lt-ltb, le-ltb}
 use Rattle.search.specs.Limits.{noBuild, budgetSpent}
+use Rattle.ground.specs.Lent.{onFront}
+use Rattle.ground.specs.Protocol.{gives}
 use Rattle.link.specs.Limits.{maxRows}
 use Rattle.link.specs.Range.{GoodTable}
 use Rattle.link.specs.Rows.{spanOf, second}
 use Rattle.link.specs.declared.Link.{Link}
 use Rattle.search.specs.Steps.{Rules, rules}
 use Rattle.search.specs.Builds.{Out, found, none, begin, planned, rulesOf}
-use Rattle.search.specs.Answer.{plan, nothing, spent, says, gives, within, outcome}
+use Rattle.search.specs.Answer.{plan, nothing, spent, says, within, outcome}
 use Rattle.search.specs.Search.{deep, Answered, Table, Starts}
 use Rattle.search.specs.declared.Hunt.the-variants.{Found, Nothing, Spent}
-use Rattle.search.proofs.Answering.{is-found, is-nothing, is-spent, tests}
+use Rattle.search.proofs.Answering.{ends, tests}
 use Rattle.search.proofs.Counting.{deep-least}
-use Rattle.search.proofs.Listing.{steps-sorted}
+use Rattle.search.proofs.Listing.{steps-increasing}
 use Rattle.search.proofs.Reducing.{rules-same}
 
 -- the search starts right: row 0 stands at 0, and its second start is its delay
@@ -53,39 +54,33 @@ module _ (k : Link) (l : ℕ) (e : l ≡ spanOf k) (ds ts : List ℕ) (g : GoodT
   is-planned =
       ap (λ (r : Rules). deep r (length ds - 1) (begin (k .period)))
       (rules-same (k .period) l ds ts same (length ds) ∙ ap (λ (x : ℕ). rules (k .period) x ds (length ds)) e)
-      ∙ deep-least (rulesOf k ds) (steps-sorted (k .period) (length ds)) (length ds - 1) (begin (k .period))
+      ∙ deep-least (rulesOf k ds) (steps-increasing (k .period) (length ds)) (length ds - 1) (begin (k .period))
 
 -- what the code says of the search is what the paper says
 module _ (budget n : ℕ) (old s s′ : List ℕ) (o : Out) where
   pub found-outcome : (left : ℕ) → Answered budget s o (Found left) s′
-      → outcome budget n old o ≡ gives (says plan 0 0 (budget - left)) (take n s′ ++ drop n old)
+      → gives (says plan 0 0 (budget - left)) (onFront (take n s′) old) ≡ outcome budget n old o
   unfolding outcome within
   found-outcome left a =
-      let w = is-found budget s s′ o left a in
-      let t = w .0 in
-      let e : budget - left ≡ t = omega (arith, w .2, w .3) in
-      rw (w .1, le-ltb budget t (w .2), e)
+      let w = ends budget s s′ o (Found left) a in
+      let e : budget - left ≡ w .taken = omega (arith, w .enough, w .rest) in
+      rw (w .is, le-ltb budget (w .taken) (w .enough), e)
 
   pub nothing-outcome : (left : ℕ) → Answered budget s o (Nothing left) s′
-      → outcome budget n old o ≡ gives (says nothing noBuild 0 (budget - left)) old
+      → gives (says nothing noBuild 0 (budget - left)) old ≡ outcome budget n old o
   unfolding outcome within
   nothing-outcome left a =
-      let w = is-nothing budget s s′ o left a in
-      let t = w .0 in
-      let e : budget - left ≡ t = omega (arith, w .2, w .3) in
-      rw (w .1, le-ltb budget t (w .2), e)
+      let w = ends budget s s′ o (Nothing left) a in
+      let e : budget - left ≡ w .taken = omega (arith, w .enough, w .rest) in
+      rw (w .is, le-ltb budget (w .taken) (w .enough), e)
 
-  pub spent-outcome : Answered budget s o Spent s′ → outcome budget n old o ≡ gives (says spent budgetSpent 0 budget) old
+  pub spent-outcome : Answered budget s o Spent s′ → gives (says spent budgetSpent 0 budget) old ≡ outcome budget n old o
   unfolding outcome within
-  spent-outcome a = go o (is-spent budget s s′ o a .0)
+  spent-outcome a = go o (ends budget s s′ o Spent a .above)
     where
-      go : (o : Out) → budget < tests o → outcome budget n old o ≡ gives (says spent budgetSpent 0 budget) old
+      go : (o : Out) → budget < tests o → gives (says spent budgetSpent 0 budget) old ≡ outcome budget n old o
       go (found x t) h = rw (lt-ltb budget t h)
       go (none t) h = rw (lt-ltb budget t h)
 
 pub in-array : {n m : ℕ} → m ≡ maxRows → n ≤ maxRows → n ≤ m
 in-array e h = omega arith
-
-pub copied-out : (n : ℕ) (xs old new : List ℕ) → length xs ≡ maxRows → n ≤ maxRows → new ≡ take n xs ++ drop (length (take n xs)) old
-    → new ≡ take n xs ++ drop n old
-copied-out n xs old new e h f = f ∙ ap (λ (x : ℕ). take n xs ++ drop x old) (length-take-le n xs (in-array e h))

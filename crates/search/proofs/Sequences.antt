@@ -1,19 +1,17 @@
 -- The list of step sequences holds just the sequences, and it strictly increases. Assumes nothing.
-use mathlib.Core.Path.{_≡_, refl, ap, _∙_, subst}
+use mathlib.Core.Path.{_≡_, refl, sym, _∙_, subst}
 use mathlib.Core.Logic.{_⊎_, inl, inr, ⊎-elim}
 use mathlib.Core.Bool.{Bool, true, false, cond}
 use mathlib.Core.List.{List, [], _∷_, map, List·Memᴰ, List·Memᴰ·head, List·Memᴰ·tail, List·Memᴰ·cases-cons, List·Memᴰ·not-nil}
-use mathlib.Core.List.{List·Memᴰ·append-cases, Memᴰ·append-left, Memᴰ·append-right}
+use mathlib.Core.List.{List·Memᴰ·append-cases, Memᴰ·append-left, Memᴰ·append-right, Memᴰ·map, Memᴰ·of-map}
 use Prim.Native.Nat.{ℕ, zero, suc, _≤_}
 use native.Mathlib.Omega.{arith}
 use lib.ListN.{length}
+use Rattle.ground.specs.Lists.{Before, Increasing}
+use Rattle.ground.proofs.Lists.{increasing-append, increasing-one}
 use Rattle.search.specs.Steps.{Step, Rules}
 use Rattle.search.specs.Builds.{Sequence, last, onward, earlierStep, earlier, behind, sequences}
-use Rattle.search.proofs.Orders.{Before, Sorted, sorted-append, sorted-one, decides, itself}
-
-in-map : (k : Step) {q : List Step} (qs : List (List Step)) → List·Memᴰ q qs → List·Memᴰ (k ∷ q) (map (_∷_ k) qs)
-in-map k {q} [] m = absurd (List·Memᴰ·not-nil m)
-in-map k {q} (x ∷ xs) m = ⊎-elim (λ e. List·Memᴰ·head (ap (_∷_ k) e)) (λ h. List·Memᴰ·tail (in-map k xs h)) (List·Memᴰ·cases-cons m)
+use Rattle.search.proofs.Orders.{decides, itself}
 
 -- x is the step k, and one of the list behind it
 record Begins (k : Step) (x : List Step) (qs : List (List Step)) : Type 0 where
@@ -22,15 +20,12 @@ record Begins (k : Step) (x : List Step) (qs : List (List Step)) : Type 0 where
   mem : List·Memᴰ rest qs
 
 map-in : (k : Step) (x : List Step) (qs : List (List Step)) → List·Memᴰ x (map (_∷_ k) qs) → Begins k x qs
-map-in k x [] m = absurd (List·Memᴰ·not-nil m)
-map-in k x (q ∷ qs) m =
-    ⊎-elim (λ e. record { rest = q; is = e; mem = List·Memᴰ·head refl })
-    (λ h. let b = map-in k x qs h in record { rest = b .rest; is = b .is; mem = List·Memᴰ·tail (b .mem) }) (List·Memᴰ·cases-cons m)
+map-in k x qs m = let w = Memᴰ·of-map (_∷_ k) qs m in record { rest = w .0; is = sym (w .2); mem = w .1 }
 
-map-sorted : (k : Step) (qs : List (List Step)) → Sorted earlier qs → Sorted earlier (map (_∷_ k) qs)
-map-sorted k [] s = tt
-map-sorted k (q ∷ qs) s =
-    (λ y m. let b = map-in k y qs m in rw (b .is) (itself k (earlier q (b .rest)) ∙ s .0 (b .rest) (b .mem)), map-sorted k qs (s .1))
+map-increasing : (k : Step) (qs : List (List Step)) → Increasing earlier qs → Increasing earlier (map (_∷_ k) qs)
+map-increasing k [] s = tt
+map-increasing k (q ∷ qs) s =
+    (λ y m. let b = map-in k y qs m in rw (b .is) (itself k (earlier q (b .rest)) ∙ s .0 (b .rest) (b .mem)), map-increasing k qs (s .1))
 
 module _ (r : Rules) (d : List ℕ → List (List Step)) (s : List ℕ) where
   -- what may stand behind the step k: nothing, or where it is good a sequence from where it leads
@@ -42,7 +37,7 @@ module _ (r : Rules) (d : List ℕ → List (List Step)) (s : List ℕ) where
   in-behind [] k q m h = absurd (List·Memᴰ·not-nil m)
   in-behind (x ∷ ks) k q m h =
       ⊎-elim (λ e. Memᴰ·append-left (behind r d s ks) (subst (λ (z : Step). List·Memᴰ (k ∷ q) (map (_∷_ z) (tails z))) e
-      (in-map k (tails k) h)))
+      (Memᴰ·map (_∷_ k) h)))
       (λ g. Memᴰ·append-right (map (_∷_ x) (tails x)) (in-behind ks k q g h)) (List·Memᴰ·cases-cons m)
 
   record Behind (x : List Step) (ks : List Step) : Type 0 where
@@ -58,19 +53,20 @@ module _ (r : Rules) (d : List ℕ → List (List Step)) (s : List ℕ) where
       (λ b. let w = behind-in ks x b in record { head = w .head; one = List·Memᴰ·tail (w .one); tail = w .tail })
       (List·Memᴰ·append-cases (map (_∷_ k) (tails k)) m)
 
-  tails-sorted : ((s : List ℕ) → Sorted earlier ([] ∷ d s)) → (k : Step) → Sorted earlier (tails k)
-  tails-sorted h k = go (r .good s k)
+  tails-increasing : ((s : List ℕ) → Increasing earlier ([] ∷ d s)) → (k : Step) → Increasing earlier (tails k)
+  tails-increasing h k = go (r .good s k)
     where
-      go : (b : Bool) → Sorted earlier ([] ∷ cond b (d (r .put s k)) [])
+      go : (b : Bool) → Increasing earlier ([] ∷ cond b (d (r .put s k)) [])
       go true = h (r .put s k)
-      go false = sorted-one earlier []
+      go false = increasing-one earlier []
 
-  behind-sorted : ((s : List ℕ) → Sorted earlier ([] ∷ d s)) → (ks : List Step) → Sorted earlierStep ks → Sorted earlier (behind r d s ks)
+  behind-increasing : ((s : List ℕ) → Increasing earlier ([] ∷ d s)) → (ks : List Step) → Increasing earlierStep ks
+      → Increasing earlier (behind r d s ks)
   unfolding behind
-  behind-sorted h [] o = tt
-  behind-sorted h (k ∷ ks) o =
-      sorted-append earlier (map (_∷_ k) (tails k)) (behind r d s ks) (map-sorted k (tails k) (tails-sorted h k))
-      (behind-sorted h ks (o .1))
+  behind-increasing h [] o = tt
+  behind-increasing h (k ∷ ks) o =
+      increasing-append earlier (map (_∷_ k) (tails k)) (behind r d s ks) (map-increasing k (tails k) (tails-increasing h k))
+      (behind-increasing h ks (o .1))
       (λ x m y n. let a = map-in k x (tails k) m in let b = behind-in ks y n in
       rw (a .is, b .tail .is) (decides k (b .head) (o .0 (b .head) (b .one)) (earlier (a .rest) (b .tail .rest))))
 
@@ -81,10 +77,12 @@ module _ (r : Rules) where
   not-empty (suc u) s y m = let b = behind-in r (sequences r u) s (r .steps s) y m in rw (b .tail .is)
 
   -- the list strictly increases, the empty sequence in front
-  pub sequences-sorted : ((s : List ℕ) → Sorted earlierStep (r .steps s)) → (u : ℕ) (s : List ℕ) → Sorted earlier ([] ∷ sequences r u s)
+  pub sequences-increasing : ((s : List ℕ) → Increasing earlierStep (r .steps s)) → (u : ℕ) (s : List ℕ)
+      → Increasing earlier ([] ∷ sequences r u s)
   unfolding sequences
-  sequences-sorted h zero s = sorted-one earlier []
-  sequences-sorted h (suc u) s = (not-empty (suc u) s, behind-sorted r (sequences r u) s (sequences-sorted h u) (r .steps s) (h s))
+  sequences-increasing h zero s = increasing-one earlier []
+  sequences-increasing h (suc u) s =
+      (not-empty (suc u) s, behind-increasing r (sequences r u) s (sequences-increasing h u) (r .steps s) (h s))
 
   -- every sequence of at most u steps is in the list
   pub sequences-have : (u : ℕ) {s : List ℕ} {q : List Step} → Sequence r s q → length q ≤ u → List·Memᴰ q (sequences r u s)

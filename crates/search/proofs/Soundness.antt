@@ -12,12 +12,14 @@ use borrow.Author.Tests.{not-true, not-false, eqb-true, eqb-false}
 use Rattle.link.specs.Limits.{maxRows}
 use Rattle.link.specs.Rows.{Crossing, one, two, start, startAt, hits, either, Clear}
 use Rattle.ground.proofs.Bools.{or-none, lt-or-ge}
+use Rattle.ground.proofs.Counting.{count-none}
+use Rattle.link.specs.Slots.{Meet}
 use Rattle.link.proofs.Circle.{Apart}
+use Rattle.link.proofs.Clearness.{clear-in, clear-both}
 use Rattle.ground.proofs.Minimum.{none-has}
 use Rattle.link.proofs.Meeting.{start-low}
 use Rattle.search.specs.Steps.{Step, rules, placed, puts, inTheWay, good, put, isStep}
 use Rattle.search.specs.Builds.{Build, done, onward, leads, begin}
-use Rattle.search.proofs.Counts.{none-of}
 use Rattle.search.proofs.Listing.{steps-are}
 use Rattle.search.proofs.Moving.{apart-sym, apart-of, apart-slots, no-slot}
 use Rattle.search.proofs.Numbers.{names}
@@ -88,7 +90,7 @@ module _ (p l : ℕ) (ds : List ℕ) (n : ℕ) (some : 0 < p) (lp : l ≤ p) whe
       sound b (put-at p l ds s k n u some is a) (put-okay s k g is (a .long) ok)
 
   pub all-placed : (s : List ℕ) → At p n 0 s → (i : ℕ) → i < n → placed p s i ≡ true
-  all-placed s a i h = not-false (placed p s i) (none-of (λ j. not (placed p s j)) 0 n (a .left) i (omega arith) (omega arith))
+  all-placed s a i h = not-false (placed p s i) (count-none (λ j. not (placed p s j)) n (a .left) i h)
 
   pub begin-okay : 0 < n → n ≤ maxRows → Okay p l ds n (begin p)
   begin-okay hn few c i j hi hj m pi pj = absurd (m (begin-free p n some hn few i hi pi ∙ sym (begin-free p n some hn few j hj pj)))
@@ -97,14 +99,16 @@ module _ (p l : ℕ) (ds : List ℕ) (n : ℕ) (some : 0 < p) (lp : l ≤ p) whe
 module _ (p l : ℕ) (ds : List ℕ) (some : 0 < p) (lp : l ≤ p) where
   pub clear-of : (s : List ℕ) → At p (length ds) 0 s → Okay p l ds (length ds) s → Clear p l ds (take (length ds) s)
   unfolding start
-  clear-of s a ok =
-      record {
-        apart = λ c i j h k. let x = all-placed p l ds (length ds) some lp s a i (omega arith) in
-            let y = all-placed p l ds (length ds) some lp s a j k in
-            rw (getD-take (length ds) s i 0 (omega arith), getD-take (length ds) s j 0 k)
-            (no-slot p l _ _ (start-low p c _ _ (placed-low p s i x)) (start-low p c _ _ (placed-low p s j y)) lp
-            (ok c i j (omega arith) k (λ z. omega arith) x y));
-      }
+  clear-of s a ok = clear-both (λ c. record { apart = free c })
+    where
+      free : (c : Crossing) (i j : ℕ) → i < j → j < length ds
+          → Meet p l (start p ds (take (length ds) s) c i) (start p ds (take (length ds) s) c j) → ⊥
+      free c i j h k =
+          let x = all-placed p l ds (length ds) some lp s a i (omega arith) in
+          let y = all-placed p l ds (length ds) some lp s a j k in
+          rw (getD-take (length ds) s i 0 (omega arith), getD-take (length ds) s j 0 k)
+          (no-slot p l _ _ (start-low p c _ _ (placed-low p s i x)) (start-low p c _ _ (placed-low p s j y)) lp
+          (ok c i j (omega arith) k (λ z. omega arith) x y))
 
   -- clear offsets, row by row
   pub plan-of : (os : List ℕ) → ((i : ℕ) → i < length ds → getD os i 0 < p) → Clear p l ds os → Plan p l ds (length ds) (λ i. getD os i 0)
@@ -117,4 +121,5 @@ module _ (p l : ℕ) (ds : List ℕ) (some : 0 < p) (lp : l ≤ p) where
     where
       go : (c : Crossing) (i j : ℕ) → i < j → j < length ds
           → Apart p l (startAt p c (getD ds i 0) (getD os i 0)) (startAt p c (getD ds j 0) (getD os j 0))
-      go c i j h k = apart-slots p l _ _ (start-low p c _ _ (low i (omega arith))) (start-low p c _ _ (low j k)) lp (cl .apart c i j h k)
+      go c i j h k =
+          apart-slots p l _ _ (start-low p c _ _ (low i (omega arith))) (start-low p c _ _ (low j k)) lp (clear-in cl c .apart i j h k)

@@ -2,16 +2,17 @@
 use mathlib.Core.Path.{_≡_, refl, sym, ap, _∙_}
 use mathlib.Core.Bool.{true, false, not}
 use mathlib.Core.List.{List}
-use Prim.Native.Nat.{ℕ, zero, suc, _+_, _-_, _<_, _≤_}
+use Prim.Native.Nat.{ℕ, zero, suc, _-_, _<_, _≤_}
 use native.Mathlib.Omega.{arith}
 use lib.Dec.{ltb}
 use lib.ListN.{length, getD, length-set, length-replicate, getD-replicate}
 use lib.Seq.{getD-set-same, getD-set-other}
 use borrow.Author.Tests.{lt-ltb, le-ltb, ltb-true}
+use Rattle.ground.specs.Count.{count}
+use Rattle.ground.proofs.Counting.{count-run, count-less, count-front}
 use Rattle.link.specs.Limits.{maxRows}
 use Rattle.search.specs.Steps.{Step, placed, puts, put, isStep}
 use Rattle.search.specs.Builds.{begin}
-use Rattle.search.proofs.Counts.{howMany, one-less}
 use Rattle.search.proofs.Moving.{offset-low, after-low}
 use Rattle.search.proofs.Numbers.{names}
 
@@ -19,7 +20,7 @@ use Rattle.search.proofs.Numbers.{names}
 pub record At (p n u : ℕ) (s : List ℕ) : Type 0 where
   pub long : n ≤ length s
   pub first : getD s 0 0 ≡ 0
-  pub left : howMany (λ i. not (placed p s i)) 0 n ≡ u
+  pub left : count (λ i. not (placed p s i)) n ≡ u
 
 pub is-placed : (p : ℕ) (s : List ℕ) (i : ℕ) → getD s i 0 < p → placed p s i ≡ true
 unfolding placed
@@ -60,11 +61,9 @@ module _ (p l : ℕ) (ds s : List ℕ) (k : Step) where
   pub put-at : (n u : ℕ) → 0 < p → isStep p n s k ≡ true → At p n (suc u) s → At p n u (put p l ds s k)
   put-at n u h e a =
       let w = names p n s k e in
-      let c : howMany (λ i. not (placed p s i)) 0 n ≡ suc (howMany (λ i. not (placed p (put p l ds s k) i)) 0 n) =
-      one-less (λ i. not (placed p s i)) (λ i. not (placed p (put p l ds s k) i)) (k .row)
-      (ap not (not-placed p s (k .row) (w .row-free)))
-      (ap not (placed-here h (omega (arith, w .row-low, a .long)))) (λ i q. ap not (sym (placed-other i q))) 0 n (omega arith)
-      (omega (arith, w .row-low)) in
+      let c = count-less (λ i. not (placed p s i)) (λ i. not (placed p (put p l ds s k) i)) (k .row) n (w .row-low)
+      (ap not (not-placed p s (k .row) (w .row-free))) (ap not (placed-here h (omega (arith, w .row-low, a .long))))
+      (λ i q. ap not (sym (placed-other i q))) in
       record {
         long = omega (arith, length-put, a .long);
         first = put-other 0 (λ z. let q : getD s 0 0 ≡ getD s (k .row) 0 = ap (λ (x : ℕ). getD s x 0) z in absurd
@@ -79,18 +78,17 @@ module _ (p n : ℕ) (some : 0 < p) (one : 0 < n) (few : n ≤ maxRows) where
   begin-free (suc i) h e =
       absurd (omega (arith, placed-low p (begin p) (suc i) e, getD-replicate {A = ℕ} (maxRows - 1) i p 0 (omega arith)))
 
-  others-free : (i : ℕ) → 0 < i → i < maxRows → placed p (begin p) i ≡ false
-  others-free zero z h = absurd (omega arith)
-  others-free (suc i) z h = not-placed p (begin p) (suc i) (omega (arith, getD-replicate {A = ℕ} (maxRows - 1) i p 0 (omega arith)))
+  others-free : (i : ℕ) → suc i < maxRows → not (placed p (begin p) (suc i)) ≡ true
+  others-free i h = ap not (not-placed p (begin p) (suc i) (omega (arith, getD-replicate {A = ℕ} (maxRows - 1) i p 0 (omega arith))))
 
-  rest-free : (a m : ℕ) → 0 < a → a + m ≤ maxRows → howMany (λ i. not (placed p (begin p) i)) a m ≡ m
-  unfolding howMany
-  rest-free a zero h l = refl
-  rest-free a (suc m) h l = rw (others-free a h (omega arith), rest-free (suc a) m (omega arith) (omega arith)) (omega arith)
-
-  all-but-one : (m : ℕ) → suc m ≤ maxRows → howMany (λ i. not (placed p (begin p) i)) 0 (suc m) ≡ m
-  unfolding howMany
-  all-but-one m h = rw (is-placed p (begin p) 0 some, rest-free 1 m (omega arith) (omega arith)) (omega arith)
+  all-but-one : (m : ℕ) → suc m ≤ maxRows → count (λ i. not (placed p (begin p) i)) (suc m) ≡ m
+  unfolding count
+  all-but-one m h =
+      count-front (λ i. not (placed p (begin p) i)) m
+      ∙ rw (
+        is-placed p (begin p) 0 some,
+        count-run (λ i. not (placed p (begin p) (suc i))) 0 m (omega arith) (λ i a b. others-free i (omega arith)),
+      ) (omega arith)
 
   pub begin-at : At p n (n - 1) (begin p)
   begin-at =
@@ -98,5 +96,5 @@ module _ (p n : ℕ) (some : 0 < p) (one : 0 < n) (few : n ≤ maxRows) where
       record {
         long = omega (arith, length-replicate (maxRows - 1) p);
         first = refl;
-        left = ap (howMany (λ i. not (placed p (begin p) i)) 0) e ∙ all-but-one (n - 1) (omega arith);
+        left = ap (count (λ i. not (placed p (begin p) i))) e ∙ all-but-one (n - 1) (omega arith);
       }

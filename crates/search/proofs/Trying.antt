@@ -8,6 +8,7 @@ use lib.Dec.{eqb}
 use lib.ListN.{getD, set, length-set}
 use lib.Seq.{getD-set-same, getD-set-other}
 use borrow.Author.Tests.{eqb-true, eqb-false, not-true, not-false}
+use Rattle.ground.proofs.Filling.{put-back}
 use Rattle.link.specs.Limits.{maxRows}
 use Rattle.link.specs.Rows.{second}
 use Rattle.search.specs.Steps.{rules, good, puts, put, isStep}
@@ -16,7 +17,7 @@ use Rattle.search.specs.Numbering.{stepAt}
 use Rattle.search.specs.Search.{more, tried, Answered, Table, Starts, unblocked}
 use Rattle.search.specs.declared.Hunt.{Hunt}
 use Rattle.search.specs.declared.Hunt.the-variants.{Found, Nothing, Spent}
-use Rattle.search.proofs.Answering.{ended, spent-more, is-nothing, is-spent, found-from, nothing-from, spent-from, restored}
+use Rattle.search.proofs.Answering.{ended, spent-more, ends, found-from, nothing-from, spent-from}
 use Rattle.search.proofs.Blocking.{unblocked-good}
 use Rattle.search.proofs.Numbers.{names-at}
 
@@ -44,10 +45,10 @@ module _ (p : ℕ) (ds : List ℕ) (n : ℕ) (few : n ≤ maxRows) (xs ys : List
           rw (x, getD-set-other ys j i b 0 o) (st .seconds i h (rw x at q))
 
   -- where j was not placed, the other rows' second starts are still right without it
-  pub starts-restored : (a : ℕ) (xs′ ys′ : List ℕ) → p ≤ getD xs j 0 → xs′ ≡ set xs j a → Starts p ds n xs′ ys′
+  pub starts-put-back : (a : ℕ) (xs′ ys′ : List ℕ) → p ≤ getD xs j 0 → xs′ ≡ set xs j a → Starts p ds n xs′ ys′
       → Starts p ds n (set xs′ j (getD xs j 0)) ys′
-  starts-restored a xs′ ys′ f e new =
-      rw (restored xs xs′ j a e)
+  starts-put-back a xs′ ys′ f e new =
+      rw (put-back xs xs′ j a e)
       (record {
         xs-length = st .xs-length;
         ys-length = new .ys-length;
@@ -88,7 +89,7 @@ module _ (p l : ℕ) (ds : List ℕ) (n : ℕ) (t : Table p l ds n) (s ys : List
       again = set s′ (rowOf k) (getD s (rowOf k) 0)
 
       row-again : s′ ≡ set s (rowOf k) a → Starts p ds n (set s′ (rowOf k) (getD s (rowOf k) 0)) ys′
-      row-again q = let w = names-at p n s k is in starts-restored p ds n (t .rows) s ys st (rowOf k) (w .row-low) a s′ ys′
+      row-again q = let w = names-at p n s k is in starts-put-back p ds n (t .rows) s ys st (rowOf k) (w .row-low) a s′ ys′
           (w .row-free) q new
 
       pub finds : (m : ℕ) → Answered (left - 1) there (d there) (Found m) s′
@@ -98,19 +99,19 @@ module _ (p l : ℕ) (ds : List ℕ) (n : ℕ) (t : Table p l ds n) (s ys : List
       pub in-vain : (m : ℕ) → Answered (left - 1) there (d there) (Nothing m) s′
           → Answered left s (more 1 (tried (rules p l ds n) d s (stepAt k))) (Nothing m) again × Starts p ds n again ys′
       in-vain m w =
-          let q = is-nothing (left - 1) there s′ _ m w .4 in
+          let q = ends (left - 1) there s′ _ (Nothing m) w .same in
           (one-more (Nothing m) again (nothing-again m w q), row-again q)
         where
           nothing-again : (m : ℕ) → Answered (left - 1) there (d there) (Nothing m) s′ → s′ ≡ there
               → Answered (left - 1) s (tried (rules p l ds n) d s (stepAt k)) (Nothing m) again
-          nothing-again m w q = rw (← goes-deeper e, restored s s′ (rowOf k) a q) (nothing-from (left - 1) there s s′ (d there) m w)
+          nothing-again m w q = rw (← goes-deeper e, put-back s s′ (rowOf k) a q) (nothing-from (left - 1) there s s′ (d there) m w)
 
       pub runs-out : Answered (left - 1) there (d there) Spent s′
           → Answered left s (more 1 (tried (rules p l ds n) d s (stepAt k))) Spent again × Starts p ds n again ys′
       runs-out w =
-          let q = is-spent (left - 1) there s′ _ w .1 in
+          let q = ends (left - 1) there s′ _ Spent w .same in
           (one-more Spent again (spent-again w q), row-again q)
         where
           spent-again : Answered (left - 1) there (d there) Spent s′ → s′ ≡ there
               → Answered (left - 1) s (tried (rules p l ds n) d s (stepAt k)) Spent again
-          spent-again w q = rw (← goes-deeper e, restored s s′ (rowOf k) a q) (spent-from (left - 1) there s s′ (d there) w)
+          spent-again w q = rw (← goes-deeper e, put-back s s′ (rowOf k) a q) (spent-from (left - 1) there s s′ (d there) w)

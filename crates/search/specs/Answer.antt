@@ -1,17 +1,17 @@
 -- What the exact planner answers, and what it leaves in the lent list.
 use mathlib.Core.Path.{_≡_}
 use mathlib.Core.Bool.{cond}
-use mathlib.Core.List.{List, [], _∷_, _++_}
+use mathlib.Core.List.{List, [], _∷_}
 use Prim.Native.Nat.{ℕ, _<_}
 use lib.Dec.{ltb}
-use lib.ListN.{length, getD, take, drop}
-use Rattle.search.specs.Limits.{noBuild, budgetSpent}
-use Rattle.link.specs.Rows.{spanOf, Clear}
+use lib.ListN.{length, getD, take}
 use Rattle.ground.specs.Judging.{first}
-use Rattle.search.specs.Refusal.{exactFaults}
+use Rattle.ground.specs.Lent.{onFront}
+use Rattle.ground.specs.Protocol.{Outcome, gives, keeping, unless}
+use Rattle.link.specs.Rows.{spanOf, Clear}
 use Rattle.link.specs.declared.Link.{Link}
-use Rattle.ground.specs.declared.Judged.{Judged}
-use Rattle.ground.specs.declared.Judged.the-variants.{Fine, Fault}
+use Rattle.search.specs.Limits.{noBuild, budgetSpent}
+use Rattle.search.specs.Refusal.{exactFaults}
 use Rattle.search.specs.Builds.{Out, found, none, planned}
 use Rattle.search.specs.declared.Answer.{Answer}
 use Rattle.search.specs.declared.Answer.the-variants.{Plan, None, Spent, Refused}
@@ -35,39 +35,29 @@ said (None t) = says nothing noBuild 0 t
 said (Spent t) = says spent budgetSpent 0 t
 said (Refused n p) = says refusal n p 0
 
--- an answer, and the lent list as it is left
-pub record Outcome : Type 0 where
-  pub says : Said
-  pub leaves : List ℕ
-
-abbrev pub gives : Said → List ℕ → Outcome
-gives s l = record { says = s; leaves = l }
-
 -- "If this number is above the budget, the answer is 15 with tests equal to the budget; otherwise tests is that number."
-unfoldable pub within : ℕ → ℕ → List ℕ → Outcome → Outcome
+unfoldable pub within : ℕ → ℕ → List ℕ → Outcome Said (List ℕ) → Outcome Said (List ℕ)
 within budget tests old o = cond (ltb budget tests) (gives (says spent budgetSpent 0 budget) old) o
 
--- "A lent buffer longer than needed keeps its tail. .. every verdict but a plan leaves all output buffers .." n rows
-unfoldable pub outcome : ℕ → ℕ → List ℕ → Out → Outcome
-outcome budget n old (found s t) = within budget t old (gives (says plan 0 0 t) (take n s ++ drop n old))
+-- a plan's offsets for n rows stand in front: ".. every verdict but a plan leaves all output buffers .."
+unfoldable pub outcome : ℕ → ℕ → List ℕ → Out → Outcome Said (List ℕ)
+outcome budget n old (found s t) = within budget t old (gives (says plan 0 0 t) (onFront (take n s) old))
 outcome budget n old (none t) = within budget t old (gives (says nothing noBuild 0 t) old)
 
-abbrev pub judged : Judged → Outcome → List ℕ → Outcome
-judged Fine o old = o
-judged (Fault n p) o old = gives (says refusal n p 0) old
-
 -- for values in range: 15, 14 or a plan
-abbrev pub searched : Link → List ℕ → ℕ → List ℕ → Outcome
+abbrev pub searched : Link → List ℕ → ℕ → List ℕ → Outcome Said (List ℕ)
 searched k ds budget old = outcome budget (length ds) old (planned k ds)
 
--- 5, 6, 8, 7, 11, 12, then 15, 14 or a plan
-unfoldable pub exactly : Link → List ℕ → ℕ → List ℕ → Outcome
-exactly k ds budget old = judged (first (exactFaults k ds (length old))) (searched k ds budget old) old
+abbrev pub refusing : ℕ → ℕ → Said
+refusing n p = says refusal n p 0
 
--- the contract: the answer r, and the list `new` where `old` stood
-pub record Answers (k : Link) (ds : List ℕ) (budget : ℕ) (old : List ℕ) (r : Answer) (new : List ℕ) : Type 0 where
-  pub told : said r ≡ exactly k ds budget old .says
-  pub left : new ≡ exactly k ds budget old .leaves
+-- 5, 6, 8, 7, 11, 12, then 15, 14 or a plan
+unfoldable pub exactly : Link → List ℕ → ℕ → List ℕ → Outcome Said (List ℕ)
+exactly k ds budget old = unless (keeping refusing old) (first (exactFaults k ds (length old))) (searched k ds budget old)
+
+-- the contract: on the link k, the table ds gets the answer r at this budget, and the lent list, which was `old`, is left as `new`
+abbrev pub Answers : Link → List ℕ → ℕ → List ℕ → Answer → List ℕ → Type 0
+Answers k ds budget old r new = gives (said r) new ≡ exactly k ds budget old
 
 -- "all offsets 0 to P-1 for all rows": a choice of them that is clear
 pub record ClearChoice (k : Link) (ds os : List ℕ) : Type 0 where
@@ -87,3 +77,10 @@ Decided (Plan t) = Unit {0}
 Decided (None t) = Unit {0}
 Decided (Spent t) = ⊥
 Decided (Refused n p) = ⊥
+
+-- the offsets that an answer for n rows gives, of the list `new` that it leaves: those of a plan
+abbrev pub given : Answer → ℕ → List ℕ → List ℕ
+given (Plan t) n new = take n new
+given (None t) n new = []
+given (Spent t) n new = []
+given (Refused m p) n new = []

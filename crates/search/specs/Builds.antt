@@ -2,11 +2,12 @@
 use mathlib.Core.Path.{_≡_}
 use mathlib.Core.Bool.{Bool, true, false, _&&_, _||_, not, cond}
 use mathlib.Core.List.{List, [], _∷_, _++_, map, List·Memᴰ}
-use Prim.Native.Nat.{ℕ, zero, suc, _+_, _-_}
+use Prim.Native.Nat.{ℕ, zero, suc, _-_}
 use lib.Dec.{ltb, eqb}
 use lib.ListN.{length, replicate}
+use Rattle.ground.specs.Count.{countIn}
 use Rattle.link.specs.Limits.{maxRows}
-use Rattle.link.specs.Rows.{Crossing, one, two, spanOf}
+use Rattle.link.specs.Rows.{numbered, spanOf}
 use Rattle.link.specs.declared.Link.{Link}
 use Rattle.search.specs.Steps.{Step, Rules, rules}
 
@@ -26,13 +27,9 @@ pub data Build (r : Rules) : ℕ → List ℕ → List Step → Type 0 where
 unfoldable pub order : ℕ → ℕ → Bool → Bool
 order a b t = ltb a b || (eqb a b && t)
 
-abbrev pub numberOf : Crossing → ℕ
-numberOf one = 1
-numberOf two = 2
-
 -- "Steps are ordered by j, then i, then crossing."
 unfoldable pub orderSteps : Step → Step → Bool → Bool
-orderSteps k m t = order (k .row) (m .row) (order (k .beside) (m .beside) (order (numberOf (k .crossing)) (numberOf (m .crossing)) t))
+orderSteps k m t = order (k .row) (m .row) (order (k .beside) (m .beside) (order (numbered (k .crossing)) (numbered (m .crossing)) t))
 
 abbrev pub earlierStep : Step → Step → Bool
 earlierStep k m = orderSteps k m false
@@ -79,11 +76,6 @@ unfoldable pub firstOf : (List Step → Bool) → List (List Step) → First
 firstOf f [] = nothing
 firstOf f (q ∷ qs) = cond (f q) (first q) (firstOf f qs)
 
--- how many of a list have f
-unfoldable pub count : (List Step → Bool) → List (List Step) → ℕ
-count f [] = 0
-count f (q ∷ qs) = cond (f q) 1 0 + count f qs
-
 -- what the planner finds, with the number of tests: offsets, or that there is no whole build
 pub data Out : Type 0 where
   found : List ℕ → ℕ → Out
@@ -91,12 +83,21 @@ pub data Out : Type 0 where
 
 -- "count the non-empty step sequences .. which are not later than the answer's build .. With no whole build, count all such sequences."
 unfoldable pub counted : Rules → ℕ → List ℕ → First → Out
-counted r u s (first q) = found (leads r s q) (count (λ x. notLater x q) (sequences r u s))
+counted r u s (first q) = found (leads r s q) (countIn (λ x. notLater x q) (sequences r u s))
 counted r u s nothing = none (length (sequences r u s))
 
 -- "The answer is the offsets of the least whole build, or 14 if there is none."
 unfoldable pub leastBuild : Rules → ℕ → List ℕ → Out
 leastBuild r u s = counted r u s (firstOf (isWhole r u s) ([] ∷ sequences r u s))
+
+-- What is found, said without the search: "the least whole build", where it leads, and its tests, "the non-empty step sequences .. which
+-- are not later than the answer's build".
+pub record LeastWhole (r : Rules) (u : ℕ) (s s′ : List ℕ) (t : ℕ) : Type 0 where
+  pub steps : List Step
+  pub whole : Build r u s steps
+  pub least : (x : List Step) → Build r u s x → notLater steps x ≡ true
+  pub offsets : leads r s steps ≡ s′
+  pub tests : countIn (λ x. notLater x steps) (sequences r u s) ≡ t
 
 -- "Row 0 stands at offset 0." No other row is placed.
 abbrev pub begin : ℕ → List ℕ
@@ -111,6 +112,9 @@ sequencesOf k ds = sequences (rulesOf k ds) (length ds - 1) (begin (k .period))
 
 abbrev pub WholeBuild : Link → List ℕ → List Step → Type 0
 WholeBuild k ds q = Build (rulesOf k ds) (length ds - 1) (begin (k .period)) q
+
+abbrev pub LeastWholeOf : Link → List ℕ → List ℕ → ℕ → Type 0
+LeastWholeOf k ds s t = LeastWhole (rulesOf k ds) (length ds - 1) (begin (k .period)) s t
 
 abbrev pub planned : Link → List ℕ → Out
 planned k ds = leastBuild (rulesOf k ds) (length ds - 1) (begin (k .period))

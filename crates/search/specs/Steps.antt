@@ -1,10 +1,11 @@
 -- Steps of a build. s has the offsets of the rows; a row that is not placed has a number at or above the period p.
 use mathlib.Core.Bool.{Bool, _&&_, not, cond}
-use mathlib.Core.List.{List, [], _∷_, _++_}
-use Prim.Native.Nat.{ℕ, zero, suc, _+_, _-_, _%_}
+use mathlib.Core.List.{List, [], _∷_}
+use Prim.Native.Nat.{ℕ, _+_, _-_, _%_}
 use lib.Dec.{ltb}
 use lib.ListN.{getD, set}
 use Rattle.ground.specs.Least.{some}
+use Rattle.ground.specs.Lists.{from}
 use Rattle.link.specs.Rows.{Crossing, one, two, start, hits, either}
 
 -- "A step names a row j not yet placed, a placed row i, and a crossing (1 or 2)."
@@ -22,11 +23,6 @@ placed p s i = ltb (getD s i 0) p
 -- k is such a step, of n rows
 unfoldable pub isStep : ℕ → ℕ → List ℕ → Step → Bool
 isStep p n s k = (ltb (k .row) n && ltb (k .beside) n) && (not (placed p s (k .row)) && placed p s (k .beside))
-
--- what f gives for a, a + 1, .., n numbers, in this order
-unfoldable pub from : {A : Type 0} → (ℕ → List A) → ℕ → ℕ → List A
-from f a zero = []
-from f a (suc n) = f a ++ from f (suc a) n
 
 -- "Steps are ordered by j, then i, then crossing.": the steps beside the row i, those of the row j, and all, of n rows
 unfoldable pub besides : ℕ → List ℕ → ℕ → ℕ → List Step

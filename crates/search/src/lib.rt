@@ -1,5 +1,8 @@
 // The exact planner: the offsets of the least whole build, or that there is none.
+pub mod limits;
+
 use crate::limits::MAX_EXACT_ROWS;
+use crate::limits::TOO_MANY_ROWS;
 use ground::Judged;
 use link::Link;
 use link::limits::MAX_ROWS;
@@ -7,11 +10,14 @@ ghost use mathlib.Core.Path.{_≡_};
 ghost use mathlib.Core.Bool.{true};
 ghost use Prim.Native.Nat.{ℕ, _<_, _≤_, _*_, _%_};
 ghost use lib.ListN.{length, getD};
+ghost use Rattle.ground.specs.Judging.{first};
+ghost use Rattle.ground.specs.Protocol.{gives};
 ghost use Rattle.link.specs.Limits.{maxRows};
 ghost use Rattle.link.specs.Range.{GoodTable};
+ghost use Rattle.search.specs.Refusal.{exactFaults};
 ghost use Rattle.search.specs.Steps.{puts, isStep};
 ghost use Rattle.search.specs.Ceilings.{ceilingUpTo};
-ghost use Rattle.search.specs.Answer.{said, searched, Answers};
+ghost use Rattle.search.specs.Answer.{said, searched, exactly};
 ghost use Rattle.search.specs.Numbering.{stepAt, Next};
 ghost use Rattle.search.specs.Search.{Table, Starts, Tried, Descended, blocked, unblocked};
 
@@ -25,11 +31,29 @@ pub enum Answer {
 
 // The offsets of the least whole build. 5, 6, 8, 7, 11, 12, then 15, 14 or a plan.
 pub fn exact(link: Link, delays: &[u32], budget: u64, offsets: &mut [u32]) -> Answer
-    ensures { λ r. ⌜ Answers link (now (delays .entry)) budget (now (offsets .entry)) r (now (offsets .exit)) ⌝ }
+    ensures { λ r. ⌜ gives (said r) (now (offsets .exit)) ≡ exactly link (now (delays .entry)) budget (now (offsets .entry)) ⌝ }
 {
-    match link::judge::exact(link, delays, offsets.len()) {
+    match judge(link, delays, offsets.len()) {
         Judged::Fault { number, place } => Answer::Refused { number, place },
         Judged::Fine => plan(link, delays, budget, offsets),
+    }
+}
+
+// A planner's table and lent list, and few enough rows: 5, 6, 8, 7, 11, 12.
+fn judge(link: Link, delays: &[u32], room: usize) -> Judged
+    ensures { λ r. ⌜ r ≡ first (exactFaults link (now (delays .entry)) room) ⌝ }
+{
+    match link::judge::planner(link, delays, room) {
+        Judged::Fault { number, place } => Judged::Fault { number, place },
+        Judged::Fine => {
+            if delays.len() > MAX_EXACT_ROWS {
+                return Judged::Fault {
+                    number: TOO_MANY_ROWS,
+                    place: 0,
+                };
+            }
+            Judged::Fine
+        }
     }
 }
 
@@ -61,8 +85,7 @@ const ROW: usize = 2 * MAX_ROWS;
 // The answer for values in range: the search starts with row 0 at offset 0 and no other row placed.
 fn plan(link: Link, delays: &[u32], budget: u64, offsets: &mut [u32]) -> Answer
     requires { ⌜ GoodTable link (now delays) × (length (now delays) ≤ length (now offsets)) ⌝ }
-    ensures { λ r. ⌜ said r ≡ searched link (now (delays .entry)) budget (now (offsets .entry)) .says ⌝ }
-    ensures { λ r. ⌜ now (offsets .exit) ≡ searched link (now (delays .entry)) budget (now (offsets .entry)) .leaves ⌝ }
+    ensures { λ r. ⌜ gives (said r) (now (offsets .exit)) ≡ searched link (now (delays .entry)) budget (now (offsets .entry)) ⌝ }
 {
     let p = link.period;
     let l = link::span(link);

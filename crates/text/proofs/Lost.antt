@@ -6,7 +6,7 @@ use Prim.Native.Nat.{ℕ, suc, _+_, _-_, _≤_, _<_, _^_}
 use native.Mathlib.Omega.{arith}
 use lib.ListN.{length, getD, length-append, List·getD-append}
 use Rattle.ground.proofs.Bools.{never}
-use Rattle.ground.proofs.Lists.{getD-behind}
+use Rattle.ground.proofs.Elements.{getD-behind}
 use Rattle.link.specs.Range.{GoodTable}
 use Rattle.link.specs.declared.Link.{Link}
 use Rattle.text.specs.Bytes.{newline}

@@ -11,7 +11,7 @@ use lib.ListN.{length, getD, length-append, List·getD-append}
 use lib.Seq.{getD-append-seam}
 use borrow.Author.Tests.{ltb-true, ltb-false, lt-ltb, le-ltb, ne-eqb, eqb-false}
 use Rattle.ground.proofs.Bools.{lt-or-ge}
-use Rattle.ground.proofs.Lists.{last-one}
+use Rattle.ground.proofs.Elements.{last-one}
 use Rattle.ground.proofs.Faults.{inside}
 use Rattle.text.specs.Decimal.{maxDigits, naught, nine, isOther, leadingZero, isDecimal, valueFrom, value}
 use Rattle.text.specs.Writing.{digitsIn, digits}

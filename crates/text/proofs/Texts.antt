@@ -11,7 +11,7 @@ use Rattle.ground.specs.Lent.{onFront}
 use Rattle.ground.specs.Protocol.{gives, keeping}
 use Rattle.ground.specs.declared.Judged.the-variants.{Fine}
 use Rattle.ground.proofs.Answers.{goes-on}
-use Rattle.ground.proofs.Lists.{getD-mapped}
+use Rattle.ground.proofs.Elements.{getD-mapped}
 use Rattle.ground.proofs.Faults.{pass, fine, front-pass, front-fine}
 use Rattle.link.specs.Limits.{maxDelay, badLength}
 use Rattle.link.specs.Range.{GoodTable}

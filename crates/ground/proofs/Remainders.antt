@@ -1,0 +1,19 @@
+-- Round a circle of p numbers by d and back again. Assumes nothing.
+use mathlib.Core.Path.{_≡_, sym, ap, _∙_}
+use Prim.Native.Nat.{ℕ, _+_, _-_, _%_, _<_}
+use native.Mathlib.Omega.{arith}
+use native.Mathlib.Nat.{mod-lt, mod-add-mod, add-mod-mod, add-mod-right}
+
+module _ (p : ℕ) (some : 0 < p) (d x : ℕ) where
+  pub there-and-back : ((x + d) % p + (p - d % p)) % p ≡ x % p
+  there-and-back =
+      let l = mod-lt d some in
+      let e : x + d % p + (p - d % p) ≡ x + p = omega arith in
+      ap (λ (y : ℕ). (y + (p - d % p)) % p) (sym (add-mod-mod x d p)) ∙ mod-add-mod (x + d % p) p (p - d % p) ∙ ap (λ (y : ℕ). y % p) e
+      ∙ add-mod-right x p
+
+  pub back-and-there : ((x + (p - d % p)) % p + d) % p ≡ x % p
+  back-and-there =
+      let l = mod-lt d some in
+      let e : x + (p - d % p) + d % p ≡ x + p = omega arith in
+      mod-add-mod (x + (p - d % p)) p d ∙ sym (add-mod-mod (x + (p - d % p)) d p) ∙ ap (λ (y : ℕ). y % p) e ∙ add-mod-right x p
