@@ -1,58 +1,45 @@
 -- The numbers of each answer, in the order in which the C interface gives them.
 use mathlib.Core.List.{List, [], _∷_}
 use Prim.Native.Nat.{ℕ}
+use Rattle.ground.specs.Protocol.{Outcome, gives}
 use Rattle.link.specs.declared.Link.{Link}
 use Rattle.checker.specs.Answer.{Said as Checked}
-use Rattle.quick.specs.Answer.{Outcome as Planned}
-use Rattle.planfile.specs.Answer.{ReadGives, WriteGives}
+use Rattle.quick.specs.Answer.{Said as Planned}
+use Rattle.planfile.specs.Answer.{ReadSaid, WrittenSaid}
 use Rattle.report.specs.Answer.{Said as Reported}
-use Rattle.search.specs.Answer.{Outcome as Searched}
-use Rattle.text.specs.Reading.{Outcome as Read}
+use Rattle.search.specs.Answer.{Said as Searched}
+use Rattle.text.specs.Answer.{Said as Read}
 
 abbrev pub linkOf : ℕ → ℕ → Link
 linkOf p t = record { period = p; size = t }
+
+-- an answer as its numbers, with what it leaves in lent memory
+abbrev pub asNumbers : {A L : Type 0} → (A → List ℕ) → Outcome A L → Outcome (List ℕ) L
+asNumbers numbers o = gives (numbers (o .says)) (o .leaves)
 
 -- number, place, earlier row, later row, crossing
 abbrev pub checkedAs : Checked → List ℕ
 checkedAs s = s .number ∷ s .place ∷ s .earlier ∷ s .later ∷ s .crossing ∷ []
 
--- an answer's numbers, and the lent list as it is left
-pub record Left : Type 0 where
-  pub numbers : List ℕ
-  pub leaves : List ℕ
-
-abbrev pub left : List ℕ → List ℕ → Left
-left ns xs = record { numbers = ns; leaves = xs }
-
 -- number, place
-abbrev pub plannedAs : Planned → Left
-plannedAs o = left (o .answer .number ∷ o .answer .place ∷ []) (o .leaves)
+abbrev pub plannedAs : Planned → List ℕ
+plannedAs s = s .number ∷ s .place ∷ []
 
 -- number, place, tests
-abbrev pub searchedAs : Searched → Left
-searchedAs o = left (o .says .number ∷ o .says .place ∷ o .says .tests ∷ []) (o .leaves)
+abbrev pub searchedAs : Searched → List ℕ
+searchedAs s = s .number ∷ s .place ∷ s .tests ∷ []
 
 -- number, place, period, size, rows
-abbrev pub readAs : Read → Left
-readAs o = left (o .says .number ∷ o .says .place ∷ o .says .period ∷ o .says .size ∷ o .says .rows ∷ []) (o .leaves)
+abbrev pub readAs : Read → List ℕ
+readAs s = s .number ∷ s .place ∷ s .link .period ∷ s .link .size ∷ s .rows ∷ []
 
 -- number, place, bytes of the file
-abbrev pub writtenAs : WriteGives → Left
-writtenAs o = left (o .says .number ∷ o .says .place ∷ o .says .bytes ∷ []) (o .leaves)
-
--- an answer's numbers, and the two lent lists as they are left
-pub record LeftTwo : Type 0 where
-  pub numbers : List ℕ
-  pub delays : List ℕ
-  pub offsets : List ℕ
-
-abbrev pub leftTwo : List ℕ → List ℕ → List ℕ → LeftTwo
-leftTwo ns ds os = record { numbers = ns; delays = ds; offsets = os }
+abbrev pub writtenAs : WrittenSaid → List ℕ
+writtenAs s = s .number ∷ s .place ∷ s .bytes ∷ []
 
 -- number, place, period, size, rows
-abbrev pub fileAs : ReadGives → LeftTwo
-fileAs o =
-    leftTwo (o .says .number ∷ o .says .place ∷ o .says .period ∷ o .says .size ∷ o .says .rows ∷ []) (o .delays) (o .offsets)
+abbrev pub fileAs : ReadSaid → List ℕ
+fileAs s = s .number ∷ s .place ∷ s .link .period ∷ s .link .size ∷ s .rows ∷ []
 
 -- number, place, and free, stretches and widest of each crossing
 abbrev pub reportedAs : Reported → List ℕ

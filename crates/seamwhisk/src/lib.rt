@@ -13,15 +13,16 @@ use search::limits::BUDGET_SPENT;
 use search::limits::NO_BUILD;
 use text::Read;
 ghost use mathlib.Core.Path.{_≡_};
+ghost use Rattle.ground.specs.Protocol.{gives};
 ghost use Rattle.checker.specs.Answer.{said, answer as Answer·checked};
 ghost use Rattle.quick.specs.Answer.{firstFit, metaOffset};
-ghost use Rattle.planfile.specs.Answer.{readGives, writeGives};
+ghost use Rattle.planfile.specs.Answer.{lists, readGives, writeGives};
 ghost use Rattle.records.specs.Columns.{delaysOf, offsetsOf};
 ghost use Rattle.report.specs.Answer.{answer as Answer·reported};
 ghost use Rattle.search.specs.Answer.{exactly};
 ghost use Rattle.search.specs.Ceilings.{ceilingUpTo};
-ghost use Rattle.text.specs.Reading.{reading};
-ghost use Rattle.seamwhisk.specs.Numbers.{linkOf, left, leftTwo, checkedAs, plannedAs, searchedAs, readAs, writtenAs, fileAs, reportedAs};
+ghost use Rattle.text.specs.Answer.{reading};
+ghost use Rattle.seamwhisk.specs.Numbers.{linkOf, asNumbers, checkedAs, plannedAs, searchedAs, readAs, writtenAs, fileAs, reportedAs};
 
 // The checker's answer, as its numbers.
 fn checked(answer: &mut [u64; 5], r: Checked)
@@ -48,7 +49,8 @@ pub extern "C" fn seamwhisk_check(
     offsets: &[u32],
     answer: &mut [u64; 5],
 )
-    ensures { λ _. ⌜ now (answer .exit) ≡ checkedAs (Answer·checked (linkOf period size) (now (delays .entry)) (now (offsets .entry))) ⌝ }
+    ensures { λ _. ⌜ now (answer .exit)
+        ≡ checkedAs (Answer·checked (linkOf period size) (now (delays .entry)) (now (offsets .entry))) ⌝ }
 {
     checked(
         answer,
@@ -64,7 +66,8 @@ pub extern "C" fn seamwhisk_check_records(
     records: &[Record],
     answer: &mut [u64; 5],
 )
-    ensures { λ _. ⌜ now (answer .exit) ≡ checkedAs (Answer·checked (linkOf period size) (delaysOf (now (records .entry))) (offsetsOf (now (records .entry)))) ⌝ }
+    ensures { λ _. ⌜ now (answer .exit)
+        ≡ checkedAs (Answer·checked (linkOf period size) (delaysOf (now (records .entry))) (offsetsOf (now (records .entry)))) ⌝ }
 {
     let r = records::check_records(Link { period, size }, records);
     checked(answer, r)
@@ -78,7 +81,8 @@ pub extern "C" fn seamwhisk_first_fit(
     offsets: &mut [u32],
     answer: &mut [u64; 2],
 )
-    ensures { λ _. ⌜ left (now (answer .exit)) (now (offsets .exit)) ≡ plannedAs (firstFit (linkOf period size) (now (delays .entry)) (now (offsets .entry))) ⌝ }
+    ensures { λ _. ⌜ gives (now (answer .exit)) (now (offsets .exit))
+        ≡ asNumbers plannedAs (firstFit (linkOf period size) (now (delays .entry)) (now (offsets .entry))) ⌝ }
 {
     match quick::first_fit(Link { period, size }, delays, offsets) {
         Planned::Plan => fill::two(answer, 0, 0),
@@ -94,7 +98,8 @@ pub extern "C" fn seamwhisk_meta_offset(
     offsets: &mut [u32],
     answer: &mut [u64; 2],
 )
-    ensures { λ _. ⌜ left (now (answer .exit)) (now (offsets .exit)) ≡ plannedAs (metaOffset (linkOf period size) (now (delays .entry)) (now (offsets .entry))) ⌝ }
+    ensures { λ _. ⌜ gives (now (answer .exit)) (now (offsets .exit))
+        ≡ asNumbers plannedAs (metaOffset (linkOf period size) (now (delays .entry)) (now (offsets .entry))) ⌝ }
 {
     match quick::meta_offset(Link { period, size }, delays, offsets) {
         Planned::Plan => fill::two(answer, 0, 0),
@@ -111,7 +116,8 @@ pub extern "C" fn seamwhisk_exact(
     offsets: &mut [u32],
     answer: &mut [u64; 3],
 )
-    ensures { λ _. ⌜ left (now (answer .exit)) (now (offsets .exit)) ≡ searchedAs (exactly (linkOf period size) (now (delays .entry)) budget (now (offsets .entry))) ⌝ }
+    ensures { λ _. ⌜ gives (now (answer .exit)) (now (offsets .exit))
+        ≡ asNumbers searchedAs (exactly (linkOf period size) (now (delays .entry)) budget (now (offsets .entry))) ⌝ }
 {
     match search::exact(Link { period, size }, delays, budget, offsets) {
         Answer::Plan { tests } => fill::three(answer, 0, 0, tests),
@@ -130,12 +136,18 @@ pub extern "C" fn seamwhisk_ceiling(rows: usize) -> u64
 
 #[no_mangle]
 pub extern "C" fn seamwhisk_read_table(text: &[u8], delays: &mut [u32], answer: &mut [u64; 5])
-    ensures { λ _. ⌜ left (now (answer .exit)) (now (delays .exit)) ≡ readAs (reading (now (text .entry)) (now (delays .entry))) ⌝ }
+    ensures { λ _. ⌜ gives (now (answer .exit)) (now (delays .exit))
+        ≡ asNumbers readAs (reading (now (text .entry)) (now (delays .entry))) ⌝ }
 {
     match text::read_table(text, delays) {
-        Read::Table { period, size, rows } => {
-            fill::five(answer, 0, 0, period as u64, size as u64, rows as u64)
-        }
+        Read::Table { link, rows } => fill::five(
+            answer,
+            0,
+            0,
+            link.period as u64,
+            link.size as u64,
+            rows as u64,
+        ),
         Read::Refused { number, place } => {
             fill::five(answer, number as u64, place as u64, 0, 0, 0)
         }
@@ -151,7 +163,8 @@ pub extern "C" fn seamwhisk_write_plan(
     file: &mut [u8],
     answer: &mut [u64; 3],
 )
-    ensures { λ _. ⌜ left (now (answer .exit)) (now (file .exit)) ≡ writtenAs (writeGives (linkOf period size) (now (delays .entry)) (now (offsets .entry)) (now (file .entry))) ⌝ }
+    ensures { λ _. ⌜ gives (now (answer .exit)) (now (file .exit))
+        ≡ asNumbers writtenAs (writeGives (linkOf period size) (now (delays .entry)) (now (offsets .entry)) (now (file .entry))) ⌝ }
 {
     match planfile::write_plan(Link { period, size }, delays, offsets, file) {
         PlanWritten::File { length } => fill::three(answer, 0, 0, length as u64),
@@ -168,7 +181,8 @@ pub extern "C" fn seamwhisk_read_plan(
     offsets: &mut [u32],
     answer: &mut [u64; 5],
 )
-    ensures { λ _. ⌜ leftTwo (now (answer .exit)) (now (delays .exit)) (now (offsets .exit)) ≡ fileAs (readGives (now (file .entry)) (now (delays .entry)) (now (offsets .entry))) ⌝ }
+    ensures { λ _. ⌜ gives (now (answer .exit)) (lists (now (delays .exit)) (now (offsets .exit)))
+        ≡ asNumbers fileAs (readGives (now (file .entry)) (now (delays .entry)) (now (offsets .entry))) ⌝ }
 {
     match planfile::read_plan(file, delays, offsets) {
         PlanRead::Plan { link, rows } => {
@@ -195,7 +209,8 @@ pub extern "C" fn seamwhisk_report(
     offsets: &[u32],
     answer: &mut [u64; 8],
 )
-    ensures { λ _. ⌜ now (answer .exit) ≡ reportedAs (Answer·reported (linkOf period size) (now (delays .entry)) (now (offsets .entry))) ⌝ }
+    ensures { λ _. ⌜ now (answer .exit)
+        ≡ reportedAs (Answer·reported (linkOf period size) (now (delays .entry)) (now (offsets .entry))) ⌝ }
 {
     match report::report(Link { period, size }, delays, offsets) {
         Reported::Stretches { first, second } => fill::eight(

@@ -1,6 +1,7 @@
 -- Each arm of the answer has its numbers; the list is as the planner left it.
 use Rattle.search.specs.Answer.{said}
-use Rattle.seamwhisk.proofs.Arms.{searched}
+use Rattle.seamwhisk.specs.Numbers.{searchedAs}
+use Rattle.seamwhisk.proofs.Arms.{arm}
 use borrow.Author.Needs.{needs}
 use Rattle.seamwhisk.proofs.seamwhisk_exact.Statement.{statement}
 use Rattle.seamwhisk.proofs.seamwhisk_exact.Tie as tie
@@ -49,7 +50,7 @@ unfolding said
 returns c =
     let at-exact = c .before .before .before .before .before .before .before .exact in
     let at-tests = c .before .before .before .tests in
-    searched _ _ _ _ _ (at-exact .ensures .told) (at-exact .ensures .left) (at-tests .given .1) (c .three .ensures)
+    arm searchedAs said _ (at-exact .ensures) (at-tests .given .1) (c .three .ensures)
 
 same-length-2 : tie.Need-same-length-2
 same-length-2 c = search needs
@@ -59,7 +60,7 @@ unfolding said
 returns-2 c =
     let at-exact = c .before .before .before .before .before .before .before .exact in
     let at-tests2 = c .before .before .before .tests2 in
-    searched _ _ _ _ _ (at-exact .ensures .told) (at-exact .ensures .left) (at-tests2 .given .1) (c .three2 .ensures)
+    arm searchedAs said _ (at-exact .ensures) (at-tests2 .given .1) (c .three2 .ensures)
 
 same-length-3 : tie.Need-same-length-3
 same-length-3 c = search needs
@@ -69,7 +70,7 @@ unfolding said
 returns-3 c =
     let at-exact = c .before .before .before .before .before .before .before .exact in
     let at-tests3 = c .before .before .before .tests3 in
-    searched _ _ _ _ _ (at-exact .ensures .told) (at-exact .ensures .left) (at-tests3 .given .1) (c .three3 .ensures)
+    arm searchedAs said _ (at-exact .ensures) (at-tests3 .given .1) (c .three3 .ensures)
 
 same-length-4 : tie.Need-same-length-4
 same-length-4 c = search needs
@@ -79,7 +80,7 @@ unfolding said
 returns-4 c =
     let at-exact = c .before .before .before .before .before .before .before .exact in
     let at-number = c .before .before .before .number in
-    searched _ _ _ _ _ (at-exact .ensures .told) (at-exact .ensures .left) (at-number .given .1) (c .three4 .ensures)
+    arm searchedAs said _ (at-exact .ensures) (at-number .given .1) (c .three4 .ensures)
 
 pub seamwhisk-exact-spec : {M : Type 1} → statement M
 seamwhisk-exact-spec =

@@ -1,6 +1,7 @@
 -- Each arm of the answer has its numbers; the list is as the planner left it.
 use Rattle.quick.specs.Answer.{said}
-use Rattle.seamwhisk.proofs.Arms.{planned}
+use Rattle.seamwhisk.specs.Numbers.{plannedAs}
+use Rattle.seamwhisk.proofs.Arms.{arm}
 use borrow.Author.Needs.{needs}
 use Rattle.seamwhisk.proofs.seamwhisk_meta_offset.Statement.{statement}
 use Rattle.seamwhisk.proofs.seamwhisk_meta_offset.Tie as tie
@@ -30,7 +31,7 @@ returns : tie.Need-returns
 unfolding said
 returns c =
     let at-meta-offset = c .before .before .before .before .before .before .meta-offset in
-    planned _ _ _ _ _ (at-meta-offset .ensures) (c .before .before .enum-told .given .1) (c .two .ensures)
+    arm plannedAs said _ (at-meta-offset .ensures) (c .before .before .enum-told .given .1) (c .two .ensures)
 
 same-length-2 : tie.Need-same-length-2
 same-length-2 c = search needs
@@ -40,7 +41,7 @@ unfolding said
 returns-2 c =
     let at-meta-offset = c .before .before .before .before .before .before .before .meta-offset in
     let at-number = c .before .before .before .number in
-    planned _ _ _ _ _ (at-meta-offset .ensures) (at-number .given .1) (c .two2 .ensures)
+    arm plannedAs said _ (at-meta-offset .ensures) (at-number .given .1) (c .two2 .ensures)
 
 pub seamwhisk-meta-offset-spec : {M : Type 1} → statement M
 seamwhisk-meta-offset-spec =

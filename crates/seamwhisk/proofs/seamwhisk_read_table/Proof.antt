@@ -1,6 +1,7 @@
 -- Each arm of the answer has its numbers; the list is as the reader left it.
-use Rattle.text.specs.Reading.{said}
-use Rattle.seamwhisk.proofs.Arms.{read}
+use Rattle.text.specs.Answer.{said}
+use Rattle.seamwhisk.specs.Numbers.{readAs}
+use Rattle.seamwhisk.proofs.Arms.{arm}
 use borrow.Author.Needs.{needs}
 use Rattle.seamwhisk.proofs.seamwhisk_read_table.Statement.{statement}
 use Rattle.seamwhisk.proofs.seamwhisk_read_table.Tie as tie
@@ -37,7 +38,7 @@ unfolding said
 returns c =
     let at-read-table = c .before .before .before .before .before .before .before .read-table in
     let at-period = c .before .before .before .period in
-    read _ _ _ _ _ (at-read-table .ensures .0) (at-read-table .ensures .1) (at-period .given .1) (c .five .ensures)
+    arm readAs said _ (at-read-table .ensures) (at-period .given .1) (c .five .ensures)
 
 same-length-2 : tie.Need-same-length-2
 same-length-2 c = search needs
@@ -47,7 +48,7 @@ unfolding said
 returns-2 c =
     let at-read-table = c .before .before .before .before .before .before .before .read-table in
     let at-number = c .before .before .before .number in
-    read _ _ _ _ _ (at-read-table .ensures .0) (at-read-table .ensures .1) (at-number .given .1) (c .five2 .ensures)
+    arm readAs said _ (at-read-table .ensures) (at-number .given .1) (c .five2 .ensures)
 
 pub seamwhisk-read-table-spec : {M : Type 1} → statement M
 seamwhisk-read-table-spec =

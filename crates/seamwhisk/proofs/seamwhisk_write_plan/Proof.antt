@@ -1,6 +1,7 @@
 -- Each arm of the answer has its numbers; the buffer is as the writer left it.
 use Rattle.planfile.specs.Answer.{writtenSaid}
-use Rattle.seamwhisk.proofs.Arms.{written}
+use Rattle.seamwhisk.specs.Numbers.{writtenAs}
+use Rattle.seamwhisk.proofs.Arms.{arm}
 use borrow.Author.Needs.{needs}
 use Rattle.seamwhisk.proofs.seamwhisk_write_plan.Statement.{statement}
 use Rattle.seamwhisk.proofs.seamwhisk_write_plan.Tie as tie
@@ -31,7 +32,7 @@ unfolding writtenSaid
 returns c =
     let at-write-plan = c .before .before .before .before .before .before .before .write-plan in
     let at-length = c .before .before .before .length in
-    written _ _ _ _ _ (at-write-plan .ensures .0) (at-write-plan .ensures .1) (at-length .given .1) (c .three .ensures)
+    arm writtenAs writtenSaid _ (at-write-plan .ensures) (at-length .given .1) (c .three .ensures)
 
 same-length-2 : tie.Need-same-length-2
 same-length-2 c = search needs
@@ -41,7 +42,7 @@ unfolding writtenSaid
 returns-2 c =
     let at-write-plan = c .before .before .before .before .before .before .before .write-plan in
     let at-number = c .before .before .before .number in
-    written _ _ _ _ _ (at-write-plan .ensures .0) (at-write-plan .ensures .1) (at-number .given .1) (c .three2 .ensures)
+    arm writtenAs writtenSaid _ (at-write-plan .ensures) (at-number .given .1) (c .three2 .ensures)
 
 pub seamwhisk-write-plan-spec : {M : Type 1} → statement M
 seamwhisk-write-plan-spec =
