@@ -1,5 +1,5 @@
 -- How the code shows what `read_table` answers: each fault in its turn, or the table. Assumes nothing.
-use mathlib.Core.Path.{_≡_, refl, sym, ap}
+use mathlib.Core.Path.{_≡_, refl, sym, ap, _∙_}
 use mathlib.Core.List.{List}
 use Prim.Native.Nat.{ℕ, _≤_, _<_}
 use lib.ListN.{length}
@@ -19,7 +19,7 @@ use Rattle.text.specs.declared.Read.the-variants.{Table, Refused}
 use Rattle.text.specs.Limits.{maxText, longText, bytesAfter}
 use Rattle.text.specs.Faults.{rowsOf, endOf, textFaults, lateFaults, readFaults}
 use Rattle.text.specs.Answer.{Said, refusing, said, tableLink, delaysOf, accepted, reading}
-use Rattle.text.specs.TextAnswer.{wholeText, refusingText, textSaid, judging}
+use Rattle.text.specs.TextAnswer.{TextSaid, wholeText, refusingText, textSaid, judging}
 use Rattle.text.proofs.Saying.{textUnsaid}
 
 module _ (x : List ℕ) where
@@ -29,14 +29,14 @@ module _ (x : List ℕ) where
   unfolding judging textSaid
   whole-told rows end e =
       let w = let-through refusingText (first (textFaults x)) (λ n p f. never (cc (ap textUnsaid f))) e in
-      (w .0, cc (ap textUnsaid (w .1)), cc (ap textUnsaid (w .1)))
+      (w .0, ap (λ (s : TextSaid). s .rows) (w .1), ap (λ (s : TextSaid). s .end) (w .1))
 
   broken-told : (n p : ℕ) → textSaid (Broken n p) ≡ judging x → first (textFaults x) ≡ Fault n p
   unfolding judging textSaid
   broken-told n p e = go (told refusingText (first (textFaults x)) e)
     where
       go : Told refusingText (first (textFaults x)) (wholeText (rowsOf x) (endOf x)) (refusingText n p) → first (textFaults x) ≡ Fault n p
-      go (stopped m q f g) = cc (ap textUnsaid g)
+      go (stopped m q f g) = f ∙ ap (λ (s : TextSaid). Fault (s .number) (s .place)) (sym g)
       go (through f g) = never (cc (ap textUnsaid g))
 
   module _ (old : List ℕ) where

@@ -141,7 +141,7 @@ module _ (x : List ℕ) (at k : ℕ) (w : Walked x at k) where
 
   pub whole : (m : ℕ) → Last m ≡ lineSays x at k → (2 ≤ k) × (textSaid (Whole (k - 2) m) ≡ judging x)
   whole m e =
-      let f = last-told _ _ _ m (told _ e) in
+      let f = last-told (first (lineFaults x k)) (ltb 1 k && isLast (line x k)) (begin x (suc k)) m (told _ e) in
       let l = and-parts (ltb 1 k) (isLast (line x k)) (f .1) in
       let h : 1 < k = ltb-true 1 k (l .0) in
       (omega arith, whole-at (k - 2) m (omega arith) (f .0) (l .1) (f .2))

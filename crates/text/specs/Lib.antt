@@ -1,4 +1,4 @@
--- The definitions that the contracts of `text` cite.
+-- The definitions that the contracts and the promises of `text` are stated with.
 pub mod Limits
 pub mod Bytes
 pub mod Decimal
