@@ -16,7 +16,6 @@ use Rattle.link.specs.declared.Link.{Link}
 use Rattle.link.specs.declared.Judged.{Judged}
 use Rattle.link.specs.declared.Judged.the-variants.{Fine, Fault}
 use Rattle.link.proofs.Bools.{clash}
-use Rattle.link.proofs.Unique as unique
 use Rattle.planfile.specs.Bytes.{Bytes}
 use Rattle.planfile.specs.Number.{moreGroups, limit, numberBytes, readNumber}
 use Rattle.planfile.specs.Format.{planBytes}

@@ -41,8 +41,8 @@ use denote.Triple.Spec.{Meets, tripleOf}
 use denote.Triple.Table.{entered, cited}
 use denote.Triple.Walked.{says, Stays, stay-none, walkOf, goes-none, Walks, ends-at, walked, walk-meets}
 use denote.Exit.{yes}
-use Rattle.records.proofs.Whole.{local, sets, gets}
-use Rattle.records.proofs.PlainCall.{Callee}
+use Rattle.walks.proofs.Whole.{local, sets, gets}
+use Rattle.walks.proofs.Called.{Callee}
 use Rattle.planfile.specs.Bytes.{Bytes}
 use Rattle.planfile.specs.Answer.{headed}
 use Rattle.planfile.specs.declared.Header.{Header}
@@ -54,7 +54,7 @@ use Rattle.filereader.proofs.steps.read_head.Symbol.{name as #head}
 use Rattle.filereader.proofs.steps.read_head.Met as head-thm
 use Rattle.filereader.specs.Held.{tagged, InRange}
 use Rattle.filereader.specs.declared.FileReader.{FileReader}
-use Rattle.filereader.proofs.HeldCall.{calls-held}
+use Rattle.walks.proofs.HeldCall.{calls-held}
 use Rattle.filereader.proofs.Apart.{Bytes as Slice, bytes-out}
 use Rattle.filereader.proofs.FileReader as T
 use Rattle.filereader.proofs.FileReader.Laws as T′

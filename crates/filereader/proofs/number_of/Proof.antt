@@ -41,8 +41,8 @@ use denote.Triple.Spec.{Meets, tripleOf}
 use denote.Triple.Table.{entered, cited}
 use denote.Triple.Walked.{says, Stays, stay-none, walkOf, goes-none, Walks, ends-at, walked, walk-meets}
 use denote.Exit.{yes}
-use Rattle.records.proofs.Whole.{local, sets, gets}
-use Rattle.records.proofs.PlainCall.{Callee}
+use Rattle.walks.proofs.Whole.{local, sets, gets}
+use Rattle.walks.proofs.Called.{Callee}
 use Rattle.planfile.specs.Reading.{Step, number}
 use Rattle.planfile.specs.Answer.{taken}
 use Rattle.planfile.specs.declared.Taken.{Taken}
@@ -53,7 +53,7 @@ use Rattle.planfile.proofs.reader.take_number.Symbol as take-def
 use Rattle.planfile.proofs.reader.take_number.Symbol.{name as #take}
 use Rattle.planfile.proofs.reader.take_number.Met as take-thm
 use Rattle.filereader.specs.declared.FileReader.{FileReader}
-use Rattle.filereader.proofs.HeldCall.{calls-held}
+use Rattle.walks.proofs.HeldCall.{calls-held}
 use Rattle.filereader.proofs.Apart.{Bytes, bytes-out}
 use Rattle.filereader.proofs.FileReader as T
 use Rattle.filereader.proofs.FileReader.Laws as T′

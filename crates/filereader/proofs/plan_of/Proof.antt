@@ -44,7 +44,7 @@ use denote.Triple.Walked.{says, needs, Stays, stay-none, gave-slice, walkOf, goe
 use denote.Triple.Walked.{walk-meets}
 use denote.Exit.{yes}
 use denote.Triple.Clauses.{ensured, lasts}
-use Rattle.records.proofs.Whole.{local, sets, gets}
+use Rattle.walks.proofs.Whole.{local, sets, gets}
 use Rattle.planfile.specs.declared.Header.{Header}
 use Rattle.planfile.specs.declared.PlanRead.{PlanRead}
 use Rattle.planfile.proofs.Header as Hd

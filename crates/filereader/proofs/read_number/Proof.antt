@@ -40,8 +40,8 @@ use denote.Triple.Spec.{Meets, tripleOf}
 use denote.Triple.Table.{entered}
 use denote.Triple.Walked.{says, Stays, stay-none, walkOf, goes-none, Walks, ends-at, walked, walk-meets}
 use denote.Exit.{yes}
-use Rattle.records.proofs.Whole.{local, sets, gets}
-use Rattle.records.proofs.PlainCall.{calls-plain}
+use Rattle.walks.proofs.Whole.{local, sets, gets}
+use Rattle.walks.proofs.PlainCall.{calls-plain}
 use Rattle.planfile.specs.Reading.{Step, number}
 use Rattle.planfile.specs.Answer.{taken}
 use Rattle.planfile.specs.declared.Taken.{Taken}
@@ -50,7 +50,7 @@ use Rattle.planfile.proofs.Taken.Laws as S′
 use Rattle.filereader.specs.Held.{after}
 use Rattle.filereader.specs.declared.FileReader.{FileReader}
 use Rattle.filereader.specs.declared.NumberRead.{NumberRead}
-use Rattle.filereader.proofs.HeldCall.{calls-held}
+use Rattle.walks.proofs.HeldCall.{calls-held}
 use Rattle.filereader.proofs.FileReader as T
 use Rattle.filereader.proofs.FileReader.Laws as T′
 use Rattle.filereader.proofs.NumberRead as N

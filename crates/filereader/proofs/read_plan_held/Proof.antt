@@ -47,8 +47,8 @@ use denote.Triple.Walked.{says, Stays, stay-none-slice, gave-slice, walkOf, goes
 use denote.Triple.Walked.{walk-meets}
 use denote.Exit.{yes}
 use denote.Triple.Clauses.{ensured, lasts}
-use Rattle.records.proofs.Whole.{local, sets, gets}
-use Rattle.records.proofs.PlainCall.{calls-plain}
+use Rattle.walks.proofs.Whole.{local, sets, gets}
+use Rattle.walks.proofs.PlainCall.{calls-plain}
 use Rattle.planfile.specs.Bytes.{Bytes}
 use Rattle.planfile.specs.Answer.{headed, readGives, IsFileOf}
 use Rattle.planfile.specs.declared.Header.{Header}
@@ -59,8 +59,8 @@ use Rattle.planfile.proofs.PlanRead as P
 use Rattle.planfile.proofs.PlanRead.Laws as P′
 use Rattle.filereader.specs.Held.{after, tagged, InRange, restGives, Gives}
 use Rattle.filereader.specs.declared.FileReader.{FileReader}
-use Rattle.filereader.proofs.Clauses.{one, and, shown}
-use Rattle.filereader.proofs.HeldCall.{calls-held}
+use Rattle.walks.proofs.Clauses.{one, and, shown}
+use Rattle.walks.proofs.HeldCall.{calls-held}
 use Rattle.filereader.proofs.Reading.{as-read}
 use Rattle.filereader.proofs.FileReader as T
 use Rattle.filereader.proofs.FileReader.Laws as T′

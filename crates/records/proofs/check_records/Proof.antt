@@ -66,7 +66,7 @@ use Rattle.records.proofs.Lists as T
 use Rattle.records.proofs.Lists.Laws as T′
 use Rattle.records.proofs.Reading.{blank, Turn, Nearer, Nearer-wf, inside, small, fits, next-fits, scaled}
 use Rattle.records.proofs.Reading.{first-turn, next-turn, nearer, read-fits, read-low, all-read}
-use Rattle.records.proofs.Whole.{local, sets, gets}
+use Rattle.walks.proofs.Whole.{local, sets, gets}
 use Rattle.records.proofs.check_records.Key.{name as #records·check-records}
 use Rattle.records.proofs.check_records as f
 use Rattle.records.proofs.check_records.Statement as stated

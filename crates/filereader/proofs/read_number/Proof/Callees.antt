@@ -10,7 +10,7 @@ use contract.Monad.{Fun}
 use contract.Running.{GhostRules, Running, tables}
 use denote.Triple.Statement.{Contract, Triple}
 use denote.Triple.Table.{cited}
-use Rattle.records.proofs.PlainCall.{Callee}
+use Rattle.walks.proofs.Called.{Callee}
 use Rattle.filereader.proofs.number_of as num
 use Rattle.filereader.proofs.number_of.Symbol as num-def
 use Rattle.filereader.proofs.number_of.Symbol.{name as #num}

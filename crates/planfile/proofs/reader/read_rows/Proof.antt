@@ -3,7 +3,6 @@ use mathlib.Core.Path.{sym, ap, _∙_}
 use Prim.Native.Nat.{_-_}
 use native.Mathlib.Omega.{arith}
 use lib.ListN.{length}
-use Rattle.planfile.specs.Reading.{rows}
 use Rattle.planfile.specs.Answer.{rowed, rowsed}
 use Rattle.planfile.proofs.Steps.{Reading, reading-none, reading-stops, reading-more, reading-done}
 use borrow.Author.Needs.{needs}
