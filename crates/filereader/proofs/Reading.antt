@@ -8,13 +8,13 @@ use Rattle.planfile.specs.Bytes.{Bytes}
 use Rattle.planfile.specs.Causes.{wrongTag}
 use Rattle.planfile.specs.Format.{tag}
 use Rattle.planfile.specs.Reading.{Step, got, stopped, begins, Head, header, rows, Meaning, refused, means, closing, body, meaning}
-use Rattle.planfile.specs.Answer.{headed, refuses, delivered, ReadGives, readGives, IsFileOf}
+use Rattle.planfile.specs.Answer.{headed, refuses, delivered, ReadGives, Gives, readGives, IsFileOf}
 use Rattle.planfile.specs.declared.Header.{Header}
 use Rattle.planfile.specs.declared.Header.the-variants.{Read, Refused}
 use Rattle.planfile.specs.declared.PlanRead.{PlanRead}
 use Rattle.planfile.proofs.Accepting.{headed as header-read}
 use Rattle.planfile.proofs.Promises.{is-file-of}
-use Rattle.filereader.specs.Held.{after, tagged, InRange, rest, restGives, Gives}
+use Rattle.filereader.specs.Held.{after, tagged, InRange, rest, restGives}
 
 module _ (bs : List ℕ) (at : ℕ) where
   pub no-tag : begins tag bs ≡ false → tagged bs at ≡ stopped wrongTag 0

@@ -1,4 +1,4 @@
--- What the reader's functions answer, over `planfile`'s definitions; `read_plan_held` itself answers `planfile`'s `readGives`.
+-- What the reader's functions answer, over `planfile`'s definitions; `read_plan` itself answers `planfile`'s `readGives`.
 use mathlib.Core.Path.{_≡_}
 use mathlib.Core.Bool.{cond}
 use mathlib.Core.List.{List, []}
@@ -8,10 +8,9 @@ use Rattle.link.specs.Limits.{maxRows}
 use Rattle.planfile.specs.Causes.{wrongTag}
 use Rattle.planfile.specs.Format.{tag}
 use Rattle.planfile.specs.Reading.{Step, got, stopped, number, begins, Head, header, rows, Meaning, means, closing}
-use Rattle.planfile.specs.Answer.{taken, headed, ReadGives, readSaid, delivered}
+use Rattle.planfile.specs.Answer.{taken, headed, ReadGives, delivered}
 use Rattle.planfile.specs.declared.Header.{Header}
 use Rattle.planfile.specs.declared.Header.the-variants.{Read, Refused}
-use Rattle.planfile.specs.declared.PlanRead.{PlanRead}
 use Rattle.filereader.specs.declared.FileReader.{FileReader}
 use Rattle.filereader.specs.declared.NumberRead.{NumberRead}
 
@@ -44,7 +43,3 @@ rest bs at head =
 
 abbrev pub restGives : List ℕ → ℕ → Header → List ℕ → List ℕ → ReadGives
 restGives bs at head oldD oldO = delivered (rest bs at (headed head)) oldD oldO
-
--- a reader that gives g answers r and leaves ds and os in the two lists
-abbrev pub Gives : ReadGives → PlanRead → List ℕ → List ℕ → Type 0
-Gives g r ds os = (readSaid r ≡ g .says) × (ds ≡ g .delays) × (os ≡ g .offsets)

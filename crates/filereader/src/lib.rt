@@ -10,8 +10,8 @@ ghost use lib.ListN.{length};
 ghost use Rattle.planfile.specs.Bytes.{Bytes};
 ghost use Rattle.planfile.specs.Format.{tag};
 ghost use Rattle.planfile.specs.Reading.{number};
-ghost use Rattle.planfile.specs.Answer.{taken, headed, readSaid, readGives, IsFileOf};
-ghost use Rattle.filereader.specs.Held.{ReadsNumber, tagged, InRange, restGives, Gives};
+ghost use Rattle.planfile.specs.Answer.{taken, headed, readSaid, Gives, readGives, IsFileOf};
+ghost use Rattle.filereader.specs.Held.{ReadsNumber, tagged, InRange, restGives};
 
 pub struct FileReader<'a> {
     pub bytes: &'a [u8],
@@ -83,7 +83,7 @@ fn plan_of<'a, 'd, 'o>(
 }
 
 // Reads a plan into the fronts of the two lists, through a reader.
-pub fn read_plan_held(bytes: &[u8], delays: &mut [u32], offsets: &mut [u32]) -> PlanRead
+pub fn read_plan(bytes: &[u8], delays: &mut [u32], offsets: &mut [u32]) -> PlanRead
     ensures { λ r. ⌜ readSaid r ≡ readGives (now (bytes .entry)) (now (delays .entry)) (now (offsets .entry)) .says ⌝ }
     ensures { λ r. ⌜ now (delays .exit) ≡ readGives (now (bytes .entry)) (now (delays .entry)) (now (offsets .entry)) .delays ⌝ }
     ensures { λ r. ⌜ now (offsets .exit) ≡ readGives (now (bytes .entry)) (now (delays .entry)) (now (offsets .entry)) .offsets ⌝ }

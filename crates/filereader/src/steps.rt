@@ -9,8 +9,8 @@ use planfile::causes::WRONG_TAG;
 use planfile::reader;
 ghost use mathlib.Core.Path.{_≡_};
 ghost use Rattle.planfile.specs.Bytes.{Bytes};
-ghost use Rattle.planfile.specs.Answer.{taken, headed};
-ghost use Rattle.filereader.specs.Held.{after, tagged, InRange, restGives, Gives};
+ghost use Rattle.planfile.specs.Answer.{taken, headed, Gives};
+ghost use Rattle.filereader.specs.Held.{after, tagged, InRange, restGives};
 
 // Where a reader stands after a number was read, or refused.
 pub fn place_after(at: usize, got: Taken) -> usize

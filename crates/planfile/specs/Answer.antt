@@ -70,6 +70,10 @@ pub record ReadGives : Type 0 where
   pub delays : List ℕ
   pub offsets : List ℕ
 
+-- a reader that gives g answers r and leaves ds and os in the two lists
+abbrev pub Gives : ReadGives → PlanRead → List ℕ → List ℕ → Type 0
+Gives g r ds os = (readSaid r ≡ g .says) × (ds ≡ g .delays) × (os ≡ g .offsets)
+
 -- "A lent buffer longer than needed keeps its tail."
 abbrev pub onFront : List ℕ → List ℕ → List ℕ
 onFront xs old = xs ++ drop (length xs) old

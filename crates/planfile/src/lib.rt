@@ -4,14 +4,12 @@ mod groups;
 pub mod reader;
 mod writer;
 
-use crate::causes::WRONG_TAG;
 use crate::writer::ROOM;
 use link::Judged;
 use link::Link;
 use link::limits::BAD_LENGTH;
-use link::limits::MAX_ROWS;
 ghost use mathlib.Core.Path.{_≡_};
-ghost use Rattle.planfile.specs.Answer.{readSaid, readGives, IsFileOf, writtenSaid, writeGives};
+ghost use Rattle.planfile.specs.Answer.{writtenSaid, writeGives};
 
 // What the bytes from a place on say: a number and how many bytes it takes, or what is wrong with its form.
 pub enum Number {
@@ -92,34 +90,6 @@ pub fn write_plan(link: Link, delays: &[u32], offsets: &[u32], buffer: &mut [u8]
             }
             writer::copy_out(&file[..length], buffer);
             PlanWritten::File { length }
-        }
-    }
-}
-
-// Reads a plan into the fronts of the two lists.
-pub fn read_plan(bytes: &[u8], delays: &mut [u32], offsets: &mut [u32]) -> PlanRead
-    ensures { λ r. ⌜ readSaid r ≡ readGives (now (bytes .entry)) (now (delays .entry)) (now (offsets .entry)) .says ⌝ }
-    ensures { λ r. ⌜ now (delays .exit) ≡ readGives (now (bytes .entry)) (now (delays .entry)) (now (offsets .entry)) .delays ⌝ }
-    ensures { λ r. ⌜ now (offsets .exit) ≡ readGives (now (bytes .entry)) (now (delays .entry)) (now (offsets .entry)) .offsets ⌝ }
-    ensures { λ r. ⌜ IsFileOf r (now (bytes .entry)) (now (delays .exit)) (now (offsets .exit)) ⌝ }
-{
-    if !reader::begins(&TAG, bytes) {
-        return PlanRead::Refused {
-            number: WRONG_TAG,
-            place: 0,
-        };
-    }
-    let mut ds = [0u32; MAX_ROWS];
-    let mut os = [0u32; MAX_ROWS];
-    match reader::read_header(bytes, TAG.len()) {
-        Header::Refused { number, place } => PlanRead::Refused { number, place },
-        Header::Read { link, rows, next } => {
-            match reader::read_rows(bytes, next, link.period, rows, &mut ds, &mut os) {
-                RowsRead::Refused { number, place } => PlanRead::Refused { number, place },
-                RowsRead::End { next: end } => {
-                    reader::close(bytes, end, link, &ds[..rows], &os[..rows], delays, offsets)
-                }
-            }
         }
     }
 }

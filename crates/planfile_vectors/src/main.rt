@@ -90,7 +90,7 @@ fn say_written(answer: PlanWritten) {
 
 fn show(name: &[u8], bytes: &[u8], delays: &mut [u32], offsets: &mut [u32]) {
     word(name);
-    say_read(planfile::read_plan(bytes, delays, offsets));
+    say_read(filereader::read_plan(bytes, delays, offsets));
     list(delays);
     list(offsets);
     word(b"\n");
@@ -281,7 +281,7 @@ fn longest() {
         &offsets,
         &mut buffer,
     ));
-    say_read(planfile::read_plan(&buffer, &mut delays, &mut offsets));
+    say_read(filereader::read_plan(&buffer, &mut delays, &mut offsets));
     entry(delays[63]);
     entry(offsets[63]);
     word(b"\n");

@@ -45,13 +45,14 @@ use denote.Triple.Walked.{walk-meets}
 use denote.Exit.{yes}
 use denote.Triple.Clauses.{ensured, lasts}
 use Rattle.walks.proofs.Whole.{local, sets, gets}
+use Rattle.planfile.specs.Answer.{Gives}
 use Rattle.planfile.specs.declared.Header.{Header}
 use Rattle.planfile.specs.declared.PlanRead.{PlanRead}
 use Rattle.planfile.proofs.Header as Hd
 use Rattle.planfile.proofs.Header.Laws as Hd′
 use Rattle.planfile.proofs.PlanRead as P
 use Rattle.planfile.proofs.PlanRead.Laws as P′
-use Rattle.filereader.specs.Held.{InRange, restGives, Gives}
+use Rattle.filereader.specs.Held.{InRange, restGives}
 use Rattle.filereader.specs.declared.FileReader.{FileReader}
 use Rattle.filereader.proofs.Apart.{Bytes, bytes-out}
 use Rattle.filereader.proofs.FileReader as T

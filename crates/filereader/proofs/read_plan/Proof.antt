@@ -1,4 +1,4 @@
--- `filereader::read_plan_held` meets its contract: a walk of its MIR, by hand. A reader that `open` returns is held in a local, passed to
+-- `filereader::read_plan` meets its contract: a walk of its MIR, by hand. A reader that `open` returns is held in a local, passed to
 -- `header_of`, moved to the rows' place and passed to `plan_of`. All that the proof knows of the five callees is that each meets its
 -- contract; that they give together what `read_plan` gives is `Reading`'s `as-read`.
 -- The slice and the reader are Copy, and one copy of what the slice owns is kept for the exit; the two `&mut` go to `plan_of` for good.
@@ -50,14 +50,14 @@ use denote.Triple.Clauses.{ensured, lasts}
 use Rattle.walks.proofs.Whole.{local, sets, gets}
 use Rattle.walks.proofs.PlainCall.{calls-plain}
 use Rattle.planfile.specs.Bytes.{Bytes}
-use Rattle.planfile.specs.Answer.{headed, readGives, IsFileOf}
+use Rattle.planfile.specs.Answer.{headed, Gives, readGives, IsFileOf}
 use Rattle.planfile.specs.declared.Header.{Header}
 use Rattle.planfile.specs.declared.PlanRead.{PlanRead}
 use Rattle.planfile.proofs.Header as Hd
 use Rattle.planfile.proofs.Header.Laws as Hd′
 use Rattle.planfile.proofs.PlanRead as P
 use Rattle.planfile.proofs.PlanRead.Laws as P′
-use Rattle.filereader.specs.Held.{after, tagged, InRange, restGives, Gives}
+use Rattle.filereader.specs.Held.{after, tagged, InRange, restGives}
 use Rattle.filereader.specs.declared.FileReader.{FileReader}
 use Rattle.walks.proofs.Clauses.{one, and, shown}
 use Rattle.walks.proofs.HeldCall.{calls-held}
@@ -69,11 +69,11 @@ use Rattle.filereader.proofs.header_of as head
 use Rattle.filereader.proofs.steps.rows_place as place
 use Rattle.filereader.proofs.moved as moved
 use Rattle.filereader.proofs.plan_of as plan
-use Rattle.filereader.proofs.read_plan_held.Proof.Callees.{Open, HeaderOf, Moved, PlanOf, Known, knows}
-use Rattle.filereader.proofs.read_plan_held.Key.{name as #read-plan-held}
-use Rattle.filereader.proofs.read_plan_held as f
-use Rattle.filereader.proofs.read_plan_held.Statement as stated
-use Rattle.filereader.proofs.read_plan_held.Code as code
+use Rattle.filereader.proofs.read_plan.Proof.Callees.{Open, HeaderOf, Moved, PlanOf, Known, knows}
+use Rattle.filereader.proofs.read_plan.Key.{name as #read-plan}
+use Rattle.filereader.proofs.read_plan as f
+use Rattle.filereader.proofs.read_plan.Statement as stated
+use Rattle.filereader.proofs.read_plan.Code as code
 
 abbrev stayed : Stays (f.ended .signature .params) (f.ended .kept)
 stayed = (
@@ -325,8 +325,8 @@ module _ {M : Type 1} (𝓤 : URA M) (H : Heap 𝓤) (A : Atoms 𝓤) (W : Given
 
 module _ {M : Type 1} (𝓤 : URA M) (H : Heap 𝓤) (A : Atoms 𝓤) (W : Given 𝓤 H A) (mem : Memory → SProp 𝓤) (run : Routine → Fun 𝓤)
     (𝓣 : Tables 𝓤 H) (known : Known 𝓤 H A mem run (𝓣 .C)) where
-  read-plan-held-walks : Walks 𝓤 H A f.ended stayed (WpFn 𝓤 H (𝓣 .C) (𝓣 .Λ) code.function) (f.clauses 𝓤 H A mem run)
-  read-plan-held-walks =
+  read-plan-walks : Walks 𝓤 H A f.ended stayed (WpFn 𝓤 H (𝓣 .C) (𝓣 .Λ) code.function) (f.clauses 𝓤 H A mem run)
+  read-plan-walks =
       walked 𝓤 H A f.ended stayed (f.clauses 𝓤 H A mem run) (WpFn 𝓤 H (𝓣 .C) (𝓣 .Λ) code.function)
       (λ κs. (slice-vals, (slice-vals, (slice-vals, tt))))
       (λ κs. (
@@ -342,17 +342,17 @@ module _ {M : Type 1} (𝓤 : URA M) (H : Heap 𝓤) (A : Atoms 𝓤) (W : Given
       (a .1 .1 .0 .ptr .0) (a .1 .1 .0 .ptr .1) (a .1 .1 .0 .name) (a .1 .1 .0 .now)
       (𝓣 .C) (𝓣 .Λ) (fmOf 𝓤 H (W .laws) 𝓣) known (are .0 .0 .1) (are .1 .0 .0 .1) (are .1 .1 .0 .0 .1)))
 
-  read-plan-held-meets : Meets 𝓤 H A f.signature (WpFn 𝓤 H (𝓣 .C) (𝓣 .Λ) code.function) (f.spec 𝓤 H A mem run)
-  read-plan-held-meets =
+  read-plan-meets : Meets 𝓤 H A f.signature (WpFn 𝓤 H (𝓣 .C) (𝓣 .Λ) code.function) (f.spec 𝓤 H A mem run)
+  read-plan-meets =
       walk-meets 𝓤 H A f.ended stayed W (
         goes-none-slice 𝓤 H A W 3 (0 ∷ []) tt (plain (λ _. u8)) yes,
         (goes-gave-slice 𝓤 H A W 3 1 tt (plain (λ _. u32)), (goes-gave-slice 𝓤 H A W 3 2 tt (plain (λ _. u32)), tt)),
       )
-      (f.clauses 𝓤 H A mem run) (WpFn 𝓤 H (𝓣 .C) (𝓣 .Λ) code.function) (WpFn-mono 𝓤 H (W .laws) 𝓣 code.function) read-plan-held-walks
+      (f.clauses 𝓤 H A mem run) (WpFn 𝓤 H (𝓣 .C) (𝓣 .Λ) code.function) (WpFn-mono 𝓤 H (W .laws) 𝓣 code.function) read-plan-walks
 
-pub read-plan-held-spec : {M : Type 1} → stated.statement M
+pub read-plan-spec : {M : Type 1} → stated.statement M
 unfolding code.routine tablesOf
-read-plan-held-spec 𝓤 H 𝓜 𝓖 𝓡 =
+read-plan-spec 𝓤 H 𝓜 𝓖 𝓡 =
     entered 𝓤 H (tripleOf 𝓤 H (𝓖 .A) f.signature (f.spec 𝓤 H (𝓖 .A) (𝓜 .mem) (𝓡 .run)))
-    (tables 𝓤 H 𝓜 𝓡 code.env .C) (tables 𝓤 H 𝓜 𝓡 code.env .Λ) #read-plan-held code.function (code.unfolded 𝓤 H 𝓜 𝓡)
-    (read-plan-held-meets 𝓤 H (𝓖 .A) (givenOf 𝓤 H 𝓜 𝓖) (𝓜 .mem) (𝓡 .run) (tablesOf 𝓤 H 𝓜 (tables 𝓤 H 𝓜 𝓡 code.env)) (knows 𝓤 H 𝓜 𝓖 𝓡))
+    (tables 𝓤 H 𝓜 𝓡 code.env .C) (tables 𝓤 H 𝓜 𝓡 code.env .Λ) #read-plan code.function (code.unfolded 𝓤 H 𝓜 𝓡)
+    (read-plan-meets 𝓤 H (𝓖 .A) (givenOf 𝓤 H 𝓜 𝓖) (𝓜 .mem) (𝓡 .run) (tablesOf 𝓤 H 𝓜 (tables 𝓤 H 𝓜 𝓡 code.env)) (knows 𝓤 H 𝓜 𝓖 𝓡))
