@@ -6,11 +6,11 @@ use Rattle.link.specs.Limits.{maxPeriod, badPeriod}
 use Rattle.link.specs.Refusal.{outside}
 use Rattle.link.proofs.Unique as unique
 use Rattle.planfile.specs.Number.{readNumber, groupsRead, onto, ending}
-use Rattle.planfile.specs.Reading.{Step, got, stopped, number}
+use Rattle.planfile.specs.Reading.{Step, got, stopped, after, number}
 use Rattle.planfile.specs.Answer.{taken}
 use Rattle.planfile.specs.declared.Taken.{Taken}
 use Rattle.planfile.specs.declared.Taken.the-variants.{Value, Refused}
-use Rattle.filereader.specs.Held.{after, ReadsNumber}
+use Rattle.filereader.specs.Held.{ReadsNumber}
 use Rattle.filereader.specs.declared.FileReader.{FileReader}
 use Rattle.filereader.specs.declared.NumberRead.{NumberRead}
 

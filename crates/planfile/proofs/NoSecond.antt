@@ -4,7 +4,8 @@ use mathlib.Core.List.{List}
 use Prim.Native.Nat.{ℕ}
 use Rattle.link.specs.declared.Link.{Link}
 use Rattle.link.proofs.Unique as unique
-use Rattle.planfile.specs.Answer.{Verdict, done, refusal, ReadSaid, readSaid, Gives, readGives, WrittenSaid, writtenSaid, writeGives}
+use Rattle.planfile.specs.Answer.{Verdict, done, refusal, ReadSaid, readSaid, Gives, readGives}
+use Rattle.planfile.specs.Answer.{WrittenSaid, writtenSaid, writeGives}
 use Rattle.planfile.specs.declared.PlanRead.{PlanRead}
 use Rattle.planfile.specs.declared.PlanRead.the-variants.{Plan, Refused as ReadRefused}
 use Rattle.planfile.specs.declared.PlanWritten.{PlanWritten}

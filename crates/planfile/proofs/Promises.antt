@@ -20,8 +20,8 @@ use Rattle.planfile.specs.Bytes.{Bytes}
 use Rattle.planfile.specs.Number.{moreGroups, limit, numberBytes, readNumber}
 use Rattle.planfile.specs.Format.{planBytes}
 use Rattle.planfile.specs.Reading.{got, header, Rows, rows, Meaning, plan, refused, judgment, closing, meaning}
-use Rattle.planfile.specs.Answer.{IsFileOf, Verdict, done, refusal, ReadSaid, readSaid, readsPlan, ReadGives, Gives, refuses, readGives}
-use Rattle.planfile.specs.Answer.{delivered}
+use Rattle.planfile.specs.Answer.{IsFileOf, Verdict, done, refusal, ReadSaid, readSaid, readsPlan, ReadGives, Gives}
+use Rattle.planfile.specs.Answer.{refuses, readGives, delivered}
 use Rattle.planfile.specs.Answer.{onFront, writes, writeGives, stored, unlessFault}
 use Rattle.planfile.specs.declared.Number.the-variants.{Value}
 use Rattle.planfile.specs.declared.PlanRead.{PlanRead}

@@ -1,5 +1,5 @@
 // The plan file: a plan written to a file reads back the same, and each accepted file is the only one for its plan.
-pub mod causes;
+mod causes;
 mod groups;
 pub mod reader;
 mod writer;
@@ -12,7 +12,7 @@ ghost use mathlib.Core.Path.{_≡_};
 ghost use Rattle.planfile.specs.Answer.{writtenSaid, writeGives};
 
 // What the bytes from a place on say: a number and how many bytes it takes, or what is wrong with its form.
-pub enum Number {
+enum Number {
     Value { value: u32, length: usize },
     Cut,
     TooLong,
@@ -39,7 +39,7 @@ pub enum Header {
 }
 
 // One row.
-pub enum RowRead {
+enum RowRead {
     Row {
         delay: u32,
         offset: u32,
@@ -52,7 +52,7 @@ pub enum RowRead {
 }
 
 // All rows: the place after the last.
-pub enum RowsRead {
+enum RowsRead {
     End { next: usize },
     Refused { number: u32, place: usize },
 }
@@ -68,7 +68,7 @@ pub enum PlanWritten {
 }
 
 // "PMA" and the version.
-pub const TAG: [u8; 4] = *b"PMA\x01";
+const TAG: [u8; 4] = *b"PMA\x01";
 
 // Writes a clear plan into the front of the buffer.
 pub fn write_plan(link: Link, delays: &[u32], offsets: &[u32], buffer: &mut [u8]) -> PlanWritten

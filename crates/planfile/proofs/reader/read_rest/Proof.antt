@@ -5,13 +5,12 @@ use native.Mathlib.Omega.{arith}
 use lib.ListN.{length}
 use lib.Seq.{length-take-le}
 use Rattle.link.specs.Limits.{maxRows}
-use Rattle.planfile.specs.Answer.{readSaid}
+use Rattle.planfile.specs.Answer.{InRange, readSaid}
 use Rattle.planfile.proofs.Closing.{rows-ended, rows-refused}
-use Rattle.filereader.specs.Held.{InRange}
-use Rattle.filereader.proofs.Reading.{head-refused, bad-rows, all-rows}
+use Rattle.planfile.proofs.Joining.{head-refused, bad-rows, all-rows}
 use borrow.Author.Needs.{needs}
-use Rattle.filereader.proofs.steps.read_rest.Statement.{statement}
-use Rattle.filereader.proofs.steps.read_rest.Tie as tie
+use Rattle.planfile.proofs.reader.read_rest.Statement.{statement}
+use Rattle.planfile.proofs.reader.read_rest.Tie as tie
 
 -- the header's ranges, and that the rows are within the two local lists
 ranges : (c : tie.After-head2) → (0 < c .head2 .given .0 .0 .period) × (c .head2 .given .0 .1 .0 ≤ maxRows)
@@ -85,7 +84,7 @@ returns-3 c =
     let r = e .before .before .before .before in
     let h = r .before .before .before .before in
     rw (all-rows _ _ _ _ _ _ _ _ (h .head2 .given .1) _ _ _ (rows-ended _ _ _ _ (r .read-rows .ensures) _ (e .end .given .1)))
-    (let closed = c .before .before .before .before .close .ensures in (closed .0, closed .1 .0, closed .1 .1))
+    (c .before .before .before .before .close .ensures)
 
 pub read-rest-spec : {M : Type 1} → statement M
 read-rest-spec =
