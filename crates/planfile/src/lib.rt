@@ -79,7 +79,7 @@ pub fn write_plan(link: Link, delays: &[u32], offsets: &[u32], buffer: &mut [u8]
         Judged::Fault { number, place } => PlanWritten::Refused { number, place },
         Judged::Fine => {
             let mut file = [0u8; ROOM];
-            writer::copy_out(&TAG, &mut file);
+            bytes::copy(&TAG, &mut file);
             let at_rows = writer::put_header(link, delays.len(), &mut file, TAG.len());
             let length = writer::put_rows(delays, offsets, &mut file, at_rows);
             if buffer.len() < length {
@@ -88,7 +88,7 @@ pub fn write_plan(link: Link, delays: &[u32], offsets: &[u32], buffer: &mut [u8]
                     place: 0,
                 };
             }
-            writer::copy_out(&file[..length], buffer);
+            bytes::copy(&file[..length], buffer);
             PlanWritten::File { length }
         }
     }

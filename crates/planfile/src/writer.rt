@@ -6,9 +6,8 @@ use link::Link;
 use link::limits::MAX_ROWS;
 use link::limits::NOT_CLEAR;
 ghost use mathlib.Core.Path.{_≡_};
-ghost use mathlib.Core.List.{_++_};
 ghost use Prim.Native.Nat.{_+_, _≤_};
-ghost use lib.ListN.{length, drop};
+ghost use lib.ListN.{length};
 ghost use Rattle.link.specs.Limits.{maxPeriod, maxRows};
 ghost use Rattle.planfile.specs.Format.{headerBytes, rowsBytes, headerRoom, rowsRoom, Put, RowsFit};
 ghost use Rattle.planfile.specs.Reading.{judgment};
@@ -31,18 +30,6 @@ pub(crate) fn judge(link: Link, delays: &[u32], offsets: &[u32]) -> Judged
             place: later,
         },
         Checked::Clear => Judged::Fine,
-    }
-}
-
-// The front of a buffer is replaced.
-pub(crate) fn copy_out(from: &[u8], to: &mut [u8])
-    requires { ⌜ length (now from) ≤ length (now to) ⌝ }
-    ensures { λ _. ⌜ now (to .exit) ≡ now (from .entry) ++ drop (length (now (from .entry))) (now (to .entry)) ⌝ }
-{
-    let mut i = 0;
-    while i < from.len() {
-        to[i] = from[i];
-        i += 1;
     }
 }
 
