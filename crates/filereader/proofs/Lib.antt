@@ -1,6 +1,3 @@
 -- Laws that belong to no one function.
-pub mod Apart
-pub mod Clauses
-pub mod HeldCall
-pub mod Reading
+pub mod Owning
 pub mod Promises

@@ -1,25 +1,18 @@
 -- What the file reader promises. Assumes nothing.
 use mathlib.Core.Path.{_≡_, refl, sym, ap, _∙_}
-use mathlib.Core.List.{List, [], _∷_}
+use mathlib.Core.List.{[], _∷_}
 use Prim.Native.Nat.{ℕ}
 use Rattle.link.specs.Limits.{maxPeriod, badPeriod}
 use Rattle.ground.specs.Judging.{outside}
 use Rattle.ground.proofs.Answers as unique
 use Rattle.planfile.specs.Number.{readNumber, groupsRead, onto, ending}
-use Rattle.planfile.specs.Reading.{Step, got, stopped, number}
-use Rattle.planfile.specs.Answer.{taken, readGives}
+use Rattle.planfile.specs.Reading.{Step, got, stopped, after, number}
+use Rattle.planfile.specs.Answer.{taken}
 use Rattle.planfile.specs.declared.Taken.{Taken}
 use Rattle.planfile.specs.declared.Taken.the-variants.{Value, Refused}
-use Rattle.planfile.specs.declared.PlanRead.{PlanRead}
-use Rattle.planfile.proofs.NoSecond as planfile
-use Rattle.filereader.specs.Held.{after, ReadsNumber, Gives}
+use Rattle.filereader.specs.Held.{ReadsNumber}
 use Rattle.filereader.specs.declared.FileReader.{FileReader}
 use Rattle.filereader.specs.declared.NumberRead.{NumberRead}
-
--- whatever `read_plan` answers and leaves in the two lists, `read_plan_held` does: no second answer meets the contract they share
-pub as-read-plan : (bs oldD oldO : List ℕ) (r r′ : PlanRead) (ds ds′ os os′ : List ℕ) → Gives (readGives bs oldD oldO) r ds os →
-    Gives (readGives bs oldD oldO) r′ ds′ os′ → (r ≡ r′) × (ds ≡ ds′) × (os ≡ os′)
-as-read-plan = planfile.no-second-reading
 
 abbrev untaken : Step ℕ → Taken
 untaken (got v next) = Value v next

@@ -1,17 +1,16 @@
 -- What the reader gives after the last number, case by case. Assumes nothing.
 use mathlib.Core.Path.{_≡_, sym, ap, _∙_}
-use mathlib.Core.Bool.{true, false, or-true}
-use mathlib.Core.List.{List, []}
+use mathlib.Core.Bool.{or-true}
+use mathlib.Core.List.{List}
 use Prim.Native.Nat.{ℕ, _≤_, _<_}
 use lib.ListN.{length}
 use borrow.Author.Tests.{lt-ltb, le-ltb}
 use Rattle.link.specs.Limits.{badLength}
 use Rattle.link.specs.declared.Link.{Link}
 use Rattle.ground.specs.declared.Judged.the-variants.{Fine, Fault}
-use Rattle.planfile.specs.Causes.{wrongTag, leftOver}
-use Rattle.planfile.specs.Format.{tag}
-use Rattle.planfile.specs.Reading.{Step, got, stopped, begins, header, Rows, rows, judgment, closing, body, meaning}
-use Rattle.planfile.specs.Answer.{refuses, readsPlan, onFront, delivered, readGives, rowsed}
+use Rattle.planfile.specs.Causes.{leftOver}
+use Rattle.planfile.specs.Reading.{Step, got, stopped, Rows, judgment, closing}
+use Rattle.planfile.specs.Answer.{refuses, readsPlan, onFront, delivered, rowsed}
 use Rattle.planfile.specs.declared.RowsRead.{RowsRead}
 use Rattle.planfile.specs.declared.RowsRead.the-variants.{End, Refused}
 
@@ -52,24 +51,3 @@ module _ (bs : List ℕ) (k : Link) (ds os : List ℕ) (at : ℕ) (oldD oldO : L
           }
       unfolding closing delivered
       copied-out h l = rw (le-ltb _ _ all, fine, le-ltb _ _ h, le-ltb _ _ l)
-
--- from the tag on
-module _ (bs oldD oldO : List ℕ) where
-  pub no-tag : begins tag bs ≡ false → readGives bs oldD oldO ≡ refuses wrongTag 0 oldD oldO
-  unfolding readGives meaning delivered
-  no-tag e = rw e
-
-  module _ (tagged : begins tag bs ≡ true) where
-    pub bad-header : (n p : ℕ) → header bs 4 ≡ stopped n p → readGives bs oldD oldO ≡ refuses n p oldD oldO
-    unfolding readGives meaning body delivered
-    bad-header n p e = rw (tagged, e)
-
-    module _ (k : Link) (n at : ℕ) (e : header bs 4 ≡ got (record { link = k; rows = n }) at) where
-      pub bad-rows : (m p : ℕ) → rows bs (k .period) n [] [] at ≡ stopped m p → readGives bs oldD oldO ≡ refuses m p oldD oldO
-      unfolding readGives meaning body delivered
-      bad-rows m p f = rw (tagged, e, f)
-
-      pub all-rows : (ds os : List ℕ) (end : ℕ) → rows bs (k .period) n [] [] at ≡ got (record { delays = ds; offsets = os }) end →
-          readGives bs oldD oldO ≡ delivered (closing bs k ds os end) oldD oldO
-      unfolding readGives meaning body
-      all-rows ds os end f = rw (tagged, e, f)

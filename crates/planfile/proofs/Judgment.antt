@@ -17,7 +17,8 @@ use Rattle.ground.specs.declared.Judged.the-variants.{Fine, Fault}
 use Rattle.ground.proofs.Bools.{clash}
 use Rattle.link.proofs.Accepted.{good-plan, fine-plan}
 use Rattle.link.proofs.Clearness.{clear-rows, rows-clear}
-use Rattle.checker.specs.Answer.{Said, clearly, blocked, named, unless, answer}
+use Rattle.ground.specs.Protocol.{unless}
+use Rattle.checker.specs.Answer.{Said, clearly, blocked, named, answer}
 use Rattle.checker.specs.Order.{FirstCollision}
 use Rattle.checker.proofs.Naming.{named-clear}
 use Rattle.checker.proofs.Collisions.{Naming, nobody, earliest, naming, first-collision}

@@ -12,4 +12,5 @@ pub mod OneFile
 pub mod Damage
 pub mod NoSecond
 pub mod Promises
+pub mod Joining
 pub mod Worked

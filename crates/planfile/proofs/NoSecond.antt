@@ -4,7 +4,8 @@ use mathlib.Core.List.{List}
 use Prim.Native.Nat.{ℕ}
 use Rattle.link.specs.declared.Link.{Link}
 use Rattle.ground.proofs.Answers as unique
-use Rattle.planfile.specs.Answer.{Verdict, done, refusal, ReadSaid, readSaid, readGives, WrittenSaid, writtenSaid, writeGives}
+use Rattle.planfile.specs.Answer.{Verdict, done, refusal, ReadSaid, readSaid, Gives, readGives}
+use Rattle.planfile.specs.Answer.{WrittenSaid, writtenSaid, writeGives}
 use Rattle.planfile.specs.declared.PlanRead.{PlanRead}
 use Rattle.planfile.specs.declared.PlanRead.the-variants.{Plan, Refused as ReadRefused}
 use Rattle.planfile.specs.declared.PlanWritten.{PlanWritten}
@@ -22,14 +23,9 @@ unfolding readSaid
 read-again (Plan k n) = refl
 read-again (ReadRefused n p) = refl
 
--- an answer and two lists as the contract of `read_plan` has them
-abbrev pub ReadMeets : List ℕ → List ℕ → List ℕ → PlanRead → List ℕ → List ℕ → Type 0
-ReadMeets bs oldD oldO r ds os = (readSaid r ≡ readGives bs oldD oldO .says) × (ds ≡ readGives bs oldD oldO .delays) ×
-    (os ≡ readGives bs oldD oldO .offsets)
-
-pub no-second-reading : (bs oldD oldO : List ℕ) (r r′ : PlanRead) (ds ds′ os os′ : List ℕ) → ReadMeets bs oldD oldO r ds os →
-    ReadMeets bs oldD oldO r′ ds′ os′ →
-    (r ≡ r′) × (ds ≡ ds′) × (os ≡ os′)
+-- of a reader: an answer and the two lists that it leaves
+pub no-second-reading : (bs oldD oldO : List ℕ) (r r′ : PlanRead) (ds ds′ os os′ : List ℕ) → Gives (readGives bs oldD oldO) r ds os →
+    Gives (readGives bs oldD oldO) r′ ds′ os′ → (r ≡ r′) × (ds ≡ ds′) × (os ≡ os′)
 no-second-reading bs oldD oldO r r′ ds ds′ os os′ w v =
     (unique.no-second readSaid unread read-again (w .0) (v .0), w .1 ∙ sym (v .1), w .2 ∙ sym (v .2))
 

@@ -20,13 +20,12 @@ use Rattle.planfile.specs.Bytes.{Bytes}
 use Rattle.planfile.specs.Number.{moreGroups, limit, numberBytes, readNumber}
 use Rattle.planfile.specs.Format.{planBytes}
 use Rattle.planfile.specs.Reading.{got, header, Rows, rows, Meaning, plan, refused, judgment, closing, meaning}
-use Rattle.planfile.specs.Answer.{IsFileOf, Verdict, done, refusal, ReadSaid, readSaid, readsPlan, ReadGives, refuses, readGives}
-use Rattle.planfile.specs.Answer.{delivered}
+use Rattle.planfile.specs.Answer.{IsFileOf, Verdict, done, refusal, ReadSaid, readSaid, readsPlan, ReadGives, Gives}
+use Rattle.planfile.specs.Answer.{refuses, readGives, delivered}
 use Rattle.planfile.specs.Answer.{onFront, writes, writeGives, stored, unlessFault}
 use Rattle.planfile.specs.declared.Number.the-variants.{Value}
 use Rattle.planfile.specs.declared.PlanRead.{PlanRead}
 use Rattle.planfile.specs.declared.PlanRead.the-variants.{Plan, Refused as ReadRefused}
-use Rattle.planfile.proofs.NoSecond.{ReadMeets}
 use Rattle.planfile.proofs.Judgment.{Unclear, judged-clear, clear-judged, unclear-judged}
 use Rattle.planfile.proofs.Encoding.{number-only, number-reads}
 use Rattle.planfile.proofs.Writing.{write-done}
@@ -153,7 +152,7 @@ same-file : {bs : List ℕ} {k k′ : Link} {ds ds′ os os′ : List ℕ} → k
 same-file e f g h = rw (e, f, g) h
 
 -- the same of the answer itself, as the reader's contract says it
-pub is-file-of : (bs oldD oldO ds os : List ℕ) (r : PlanRead) → Bytes bs → ReadMeets bs oldD oldO r ds os → IsFileOf r bs ds os
+pub is-file-of : (bs oldD oldO ds os : List ℕ) (r : PlanRead) → Bytes bs → Gives (readGives bs oldD oldO) r ds os → IsFileOf r bs ds os
 unfolding readSaid
 is-file-of bs oldD oldO ds os (ReadRefused n p) h w = tt
 is-file-of bs oldD oldO ds os (Plan k n) h w =

@@ -5,7 +5,7 @@ use Prim.Native.Nat.{ℕ, _+_, _*_, _≤_, _<_}
 use native.Mathlib.Omega.{arith}
 use native.Mathlib.Numerals.{add-one}
 use lib.ListN.{length, getD, take, drop, length-append, drop-of-length-le}
-use lib.Seq.{drop-cons, length-take-le}
+use lib.Seq.{drop-cons, length-take-le, take-length}
 use borrow.Author.Tests.{lt-ltb, le-ltb}
 use Rattle.link.specs.Limits.{badLength, maxRows}
 use Rattle.link.specs.Range.{GoodPlan}
@@ -103,3 +103,7 @@ pub plan-put : (k : Link) (ds os rest f₁ f₂ f₃ : List ℕ) (r₁ r₂ : �
 unfolding planBytes
 plan-put k ds os rest f₁ f₂ f₃ r₁ r₂ a b c =
     put-both [] f₁ f₃ tag _ 0 4 r₂ (refl, rw a) (put-both f₁ f₂ f₃ _ _ 4 r₁ r₂ b c)
+
+-- the kit's copy of a whole list leaves it on the buffer's front
+pub copied-whole : (xs bs old out : List ℕ) → out ≡ take (length xs) xs ++ drop (length xs) old → xs ≡ bs → out ≡ onFront bs old
+copied-whole xs bs old out e f = e ∙ rw (take-length, f)

@@ -2,15 +2,16 @@
 use mathlib.Core.Path.{_≡_}
 use mathlib.Core.Bool.{cond, _||_}
 use mathlib.Core.List.{List, _++_}
-use Prim.Native.Nat.{ℕ}
+use Prim.Native.Nat.{ℕ, _≤_, _<_}
 use lib.Dec.{ltb}
 use lib.ListN.{length, drop, take}
-use Rattle.link.specs.Limits.{badLength}
+use Rattle.link.specs.Limits.{maxRows, badLength}
 use Rattle.link.specs.declared.Link.{Link}
 use Rattle.ground.specs.declared.Judged.{Judged}
 use Rattle.ground.specs.declared.Judged.the-variants.{Fine, Fault}
 use Rattle.planfile.specs.Format.{planBytes}
-use Rattle.planfile.specs.Reading.{Step, got, stopped, Head, Row, Rows, Meaning, plan, refused, closing, meaning, judgment}
+use Rattle.planfile.specs.Reading.{Step, got, stopped, Head, Row, Rows, Meaning, plan, refused, means, judgment}
+use Rattle.planfile.specs.Reading.{closing, rest, meaning}
 use Rattle.planfile.specs.declared.Taken.{Taken}
 use Rattle.planfile.specs.declared.Taken.the-variants.{Value as TakenValue, Refused as TakenRefused}
 use Rattle.planfile.specs.declared.Header.{Header}
@@ -32,6 +33,11 @@ taken (TakenRefused n p) = stopped n p
 unfoldable pub headed : Header → Step Head
 headed (HeaderRead k n next) = got (record { link = k; rows = n }) next
 headed (HeaderRefused n p) = stopped n p
+
+-- the ranges of a header that was read
+abbrev pub InRange : Header → Type 0
+InRange (HeaderRead k n next) = (0 < k .period) × (n ≤ maxRows)
+InRange (HeaderRefused n p) = Unit
 
 unfoldable pub rowed : RowRead → Step Row
 rowed (OneRow d o next) = got (record { delay = d; offset = o }) next
@@ -70,6 +76,10 @@ pub record ReadGives : Type 0 where
   pub delays : List ℕ
   pub offsets : List ℕ
 
+-- a reader that gives g answers r and leaves ds and os in the two lists
+abbrev pub Gives : ReadGives → PlanRead → List ℕ → List ℕ → Type 0
+Gives g r ds os = (readSaid r ≡ g .says) × (ds ≡ g .delays) × (os ≡ g .offsets)
+
 -- "A lent buffer longer than needed keeps its tail."
 abbrev pub onFront : List ℕ → List ℕ → List ℕ
 onFront xs old = xs ++ drop (length xs) old
@@ -89,6 +99,10 @@ delivered (refused n p) oldD oldO = refuses n p oldD oldO
 -- what the reader gives once it has read the last number
 abbrev pub closes : List ℕ → ℕ → Link → List ℕ → List ℕ → List ℕ → List ℕ → ReadGives
 closes bs end k ds os oldD oldO = delivered (closing bs k ds os end) oldD oldO
+
+-- what the reader gives whose header is h, the rows standing from a place on
+unfoldable pub restGives : List ℕ → ℕ → Header → List ℕ → List ℕ → ReadGives
+restGives bs at h oldD oldO = delivered (means (headed h) (λ x _. rest bs x at)) oldD oldO
 
 unfoldable pub readGives : List ℕ → List ℕ → List ℕ → ReadGives
 readGives bs oldD oldO = delivered (meaning bs) oldD oldO

@@ -21,6 +21,11 @@ pub data Step (A : Type 0) : Type 0 where
   got : A → ℕ → Step A
   stopped : ℕ → ℕ → Step A
 
+-- the place after what was read at a place; a refused thing is not passed over
+abbrev pub after : {A : Type 0} → ℕ → Step A → ℕ
+after at (got a next) = next
+after at (stopped n p) = at
+
 -- a refusal is passed on at once
 abbrev pub passing : {A B : Type 0} → Step A → (A → ℕ → Step B) → Step B
 passing (got a next) f = f a next
@@ -53,6 +58,10 @@ header bs at =
     passing (number bs at₁ 1 p badSize) (λ t at₂.
     passing (number bs at₂ 1 maxRows badRows) (λ n at₃.
     got (record { link = record { period = p; size = t }; rows = n }) at₃)))
+
+-- the tag, then the header at a place
+abbrev pub tagged : List ℕ → ℕ → Step Head
+tagged bs at = cond (begins tag bs) (header bs at) (stopped wrongTag 0)
 
 pub record Row : Type 0 where
   pub delay : ℕ
@@ -101,11 +110,14 @@ judgment k ds os = verdictOf (answer k ds os .verdict) (answer k ds os)
 unfoldable pub closing : List ℕ → Link → List ℕ → List ℕ → ℕ → Meaning
 closing bs k ds os at = cond (ltb at (length bs)) (refused leftOver at) (unless (judgment k ds os) (plan k ds os))
 
+-- after the header h: the rows from a place on, then the closing
+abbrev pub rest : List ℕ → Head → ℕ → Meaning
+rest bs h at =
+    means (rows bs (h .link .period) (h .rows) [] [] at) (λ r end.
+    closing bs (h .link) (r .delays) (r .offsets) end)
+
 unfoldable pub body : List ℕ → ℕ → Meaning
-body bs at =
-    means (header bs at) (λ h at₁.
-    means (rows bs (h .link .period) (h .rows) [] [] at₁) (λ r at₂.
-    closing bs (h .link) (r .delays) (r .offsets) at₂))
+body bs at = means (header bs at) (λ h next. rest bs h next)
 
 unfoldable pub meaning : List ℕ → Meaning
 meaning bs = cond (begins tag bs) (body bs (length tag)) (refused wrongTag 0)

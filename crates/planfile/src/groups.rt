@@ -9,10 +9,10 @@ ghost use lib.ListN.{length, drop};
 ghost use Rattle.planfile.specs.Format.{Put};
 ghost use Rattle.planfile.specs.Number.{moreGroups, limit, groups, groupsRead, numberBytes, readNumber, formFault};
 
-pub const GROUP: u32 = 128;
+pub(crate) const GROUP: u32 = 128;
 
 // A number has at most four bytes.
-pub const MORE_GROUPS: usize = 3;
+pub(crate) const MORE_GROUPS: usize = 3;
 
 // What the bytes say where so many more groups may follow the next one.
 fn groups_at(bytes: &[u8], at: usize, more: usize, first: bool) -> Number
@@ -52,14 +52,14 @@ fn groups_at(bytes: &[u8], at: usize, more: usize, first: bool) -> Number
 }
 
 // The number at a place.
-pub fn number_at(bytes: &[u8], at: usize) -> Number
+pub(crate) fn number_at(bytes: &[u8], at: usize) -> Number
     ensures { λ r. ⌜ r ≡ readNumber (drop at (now (bytes .entry))) ⌝ }
 {
     groups_at(bytes, at, MORE_GROUPS, true)
 }
 
 // The refusal number of what is wrong, 0 where nothing is.
-pub fn form_fault(number: Number) -> u32
+pub(crate) fn form_fault(number: Number) -> u32
     ensures { λ r. ⌜ r ≡ formFault number ⌝ }
 {
     match number {
@@ -87,7 +87,7 @@ fn put_groups(file: &mut [u8], at: usize, value: u32, more: usize) -> usize
 }
 
 // Writes a number at a place, and answers the place after it.
-pub fn put_number(file: &mut [u8], at: usize, value: u32) -> usize
+pub(crate) fn put_number(file: &mut [u8], at: usize, value: u32) -> usize
     requires { ⌜ (at + moreGroups < length (now file)) × (value < limit moreGroups) ⌝ }
     ensures { λ r. ⌜ Put (now (file .entry)) at (numberBytes value) (now (file .exit)) r ⌝ }
 {

@@ -1,20 +1,18 @@
 // The plan file: a plan written to a file reads back the same, and each accepted file is the only one for its plan.
-pub mod causes;
+mod causes;
 mod groups;
 pub mod reader;
 mod writer;
 
-use crate::causes::WRONG_TAG;
 use crate::writer::ROOM;
 use ground::Judged;
 use link::Link;
 use link::limits::BAD_LENGTH;
-use link::limits::MAX_ROWS;
 ghost use mathlib.Core.Path.{_≡_};
-ghost use Rattle.planfile.specs.Answer.{readSaid, readGives, IsFileOf, writtenSaid, writeGives};
+ghost use Rattle.planfile.specs.Answer.{writtenSaid, writeGives};
 
 // What the bytes from a place on say: a number and how many bytes it takes, or what is wrong with its form.
-pub enum Number {
+enum Number {
     Value { value: u32, length: usize },
     Cut,
     TooLong,
@@ -41,7 +39,7 @@ pub enum Header {
 }
 
 // One row.
-pub enum RowRead {
+enum RowRead {
     Row {
         delay: u32,
         offset: u32,
@@ -54,7 +52,7 @@ pub enum RowRead {
 }
 
 // All rows: the place after the last.
-pub enum RowsRead {
+enum RowsRead {
     End { next: usize },
     Refused { number: u32, place: usize },
 }
@@ -70,7 +68,7 @@ pub enum PlanWritten {
 }
 
 // "PMA" and the version.
-pub const TAG: [u8; 4] = *b"PMA\x01";
+const TAG: [u8; 4] = *b"PMA\x01";
 
 // Writes a clear plan into the front of the buffer.
 pub fn write_plan(link: Link, delays: &[u32], offsets: &[u32], buffer: &mut [u8]) -> PlanWritten
@@ -81,7 +79,7 @@ pub fn write_plan(link: Link, delays: &[u32], offsets: &[u32], buffer: &mut [u8]
         Judged::Fault { number, place } => PlanWritten::Refused { number, place },
         Judged::Fine => {
             let mut file = [0u8; ROOM];
-            writer::copy_out(&TAG, &mut file);
+            bytes::copy(&TAG, &mut file);
             let at_rows = writer::put_header(link, delays.len(), &mut file, TAG.len());
             let length = writer::put_rows(delays, offsets, &mut file, at_rows);
             if buffer.len() < length {
@@ -90,36 +88,8 @@ pub fn write_plan(link: Link, delays: &[u32], offsets: &[u32], buffer: &mut [u8]
                     place: 0,
                 };
             }
-            writer::copy_out(&file[..length], buffer);
+            bytes::copy(&file[..length], buffer);
             PlanWritten::File { length }
-        }
-    }
-}
-
-// Reads a plan into the fronts of the two lists.
-pub fn read_plan(bytes: &[u8], delays: &mut [u32], offsets: &mut [u32]) -> PlanRead
-    ensures { λ r. ⌜ readSaid r ≡ readGives (now (bytes .entry)) (now (delays .entry)) (now (offsets .entry)) .says ⌝ }
-    ensures { λ r. ⌜ now (delays .exit) ≡ readGives (now (bytes .entry)) (now (delays .entry)) (now (offsets .entry)) .delays ⌝ }
-    ensures { λ r. ⌜ now (offsets .exit) ≡ readGives (now (bytes .entry)) (now (delays .entry)) (now (offsets .entry)) .offsets ⌝ }
-    ensures { λ r. ⌜ IsFileOf r (now (bytes .entry)) (now (delays .exit)) (now (offsets .exit)) ⌝ }
-{
-    if !reader::begins(&TAG, bytes) {
-        return PlanRead::Refused {
-            number: WRONG_TAG,
-            place: 0,
-        };
-    }
-    let mut ds = [0u32; MAX_ROWS];
-    let mut os = [0u32; MAX_ROWS];
-    match reader::read_header(bytes, TAG.len()) {
-        Header::Refused { number, place } => PlanRead::Refused { number, place },
-        Header::Read { link, rows, next } => {
-            match reader::read_rows(bytes, next, link.period, rows, &mut ds, &mut os) {
-                RowsRead::Refused { number, place } => PlanRead::Refused { number, place },
-                RowsRead::End { next: end } => {
-                    reader::close(bytes, end, link, &ds[..rows], &os[..rows], delays, offsets)
-                }
-            }
         }
     }
 }

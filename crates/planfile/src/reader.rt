@@ -4,8 +4,10 @@ use crate::Number;
 use crate::PlanRead;
 use crate::RowRead;
 use crate::RowsRead;
+use crate::TAG;
 use crate::Taken;
 use crate::causes::LEFT_OVER;
+use crate::causes::WRONG_TAG;
 use crate::groups;
 use crate::writer;
 use ground::Judged;
@@ -23,11 +25,12 @@ ghost use mathlib.Core.Path.{_≡_};
 ghost use mathlib.Core.List.{[]};
 ghost use Prim.Native.Nat.{_≤_, _<_};
 ghost use lib.ListN.{length, take};
-ghost use Rattle.planfile.specs.Reading.{begins as beginsWith, number as numberOf, header, row, rows as rowsOf};
-ghost use Rattle.planfile.specs.Answer.{taken, headed, rowed, rowsed, readSaid, closes};
+ghost use Rattle.planfile.specs.Bytes.{Bytes};
+ghost use Rattle.planfile.specs.Reading.{after, begins as beginsWith, number as numberOf, header, tagged, row, rows as rowsOf};
+ghost use Rattle.planfile.specs.Answer.{taken, headed, InRange, rowed, rowsed, Gives, closes, restGives};
 
 // Whether the bytes begin with the tag.
-pub fn begins(tag: &[u8], bytes: &[u8]) -> bool
+fn begins(tag: &[u8], bytes: &[u8]) -> bool
     ensures { λ r. ⌜ r ≡ beginsWith (now (tag .entry)) (now (bytes .entry)) ⌝ }
 {
     let mut i = 0;
@@ -72,8 +75,21 @@ pub fn take_number(bytes: &[u8], at: usize, low: u32, high: u32, fault: u32) -> 
     }
 }
 
+// The place after a number that was read at a place; one that was refused is not passed over.
+pub fn after_number(at: usize, got: Taken) -> usize
+    ensures { λ r. ⌜ r ≡ after at (taken got) ⌝ }
+{
+    match got {
+        Taken::Refused {
+            number: _,
+            place: _,
+        } => at,
+        Taken::Value { value: _, next } => next,
+    }
+}
+
 // Period, size and the number of rows.
-pub fn read_header(bytes: &[u8], at: usize) -> Header
+fn read_numbers(bytes: &[u8], at: usize) -> Header
     ensures { λ r. ⌜ headed r ≡ header (now (bytes .entry)) at ⌝ }
 {
     match take_number(bytes, at, 1, MAX_PERIOD, BAD_PERIOD) {
@@ -95,6 +111,36 @@ pub fn read_header(bytes: &[u8], at: usize) -> Header
                 },
             },
         },
+    }
+}
+
+// The tag, and the header at a place.
+pub fn read_header(bytes: &[u8], at: usize) -> Header
+    ensures { λ r. ⌜ (headed r ≡ tagged (now (bytes .entry)) at) × Bytes (now (bytes .entry)) ⌝ }
+{
+    if !begins(&TAG, bytes) {
+        return Header::Refused {
+            number: WRONG_TAG,
+            place: 0,
+        };
+    }
+    read_numbers(bytes, at)
+}
+
+// The place after a header that was read at a place, where the rows begin; one that was refused is not passed over.
+pub fn after_header(at: usize, head: Header) -> usize
+    ensures { λ r. ⌜ r ≡ after at (headed head) ⌝ }
+{
+    match head {
+        Header::Refused {
+            number: _,
+            place: _,
+        } => at,
+        Header::Read {
+            link: _,
+            rows: _,
+            next,
+        } => next,
     }
 }
 
@@ -123,7 +169,7 @@ fn read_row(bytes: &[u8], at: usize, period: u32) -> RowRead
 }
 
 // All rows, into the front of two lists.
-pub fn read_rows(
+fn read_rows(
     bytes: &[u8],
     from: usize,
     period: u32,
@@ -132,7 +178,8 @@ pub fn read_rows(
     offsets: &mut [u32],
 ) -> RowsRead
     requires { ⌜ (0 < period) × (rows ≤ length (now delays)) × (rows ≤ length (now offsets)) ⌝ }
-    ensures { λ r. ⌜ rowsed r (take rows (now (delays .exit))) (take rows (now (offsets .exit))) ≡ rowsOf (now (bytes .entry)) period rows [] [] from ⌝ }
+    ensures { λ r. ⌜ rowsed r (take rows (now (delays .exit))) (take rows (now (offsets .exit)))
+        ≡ rowsOf (now (bytes .entry)) period rows [] [] from ⌝ }
 {
     let mut at = from;
     let mut j: usize = 0;
@@ -157,7 +204,7 @@ pub fn read_rows(
 }
 
 // After the last number: 16 for bytes left over, 18, 11; then the rows are copied out.
-pub fn close(
+fn close(
     bytes: &[u8],
     end: usize,
     link: Link,
@@ -166,9 +213,9 @@ pub fn close(
     delays: &mut [u32],
     offsets: &mut [u32],
 ) -> PlanRead
-    ensures { λ r. ⌜ readSaid r ≡ closes (now (bytes .entry)) end link (now (ds .entry)) (now (os .entry)) (now (delays .entry)) (now (offsets .entry)) .says ⌝ }
-    ensures { λ r. ⌜ now (delays .exit) ≡ closes (now (bytes .entry)) end link (now (ds .entry)) (now (os .entry)) (now (delays .entry)) (now (offsets .entry)) .delays ⌝ }
-    ensures { λ r. ⌜ now (offsets .exit) ≡ closes (now (bytes .entry)) end link (now (ds .entry)) (now (os .entry)) (now (delays .entry)) (now (offsets .entry)) .offsets ⌝ }
+    ensures { λ r. ⌜ Gives
+        (closes (now (bytes .entry)) end link (now (ds .entry)) (now (os .entry)) (now (delays .entry)) (now (offsets .entry)))
+        r (now (delays .exit)) (now (offsets .exit)) ⌝ }
 {
     if end < bytes.len() {
         return PlanRead::Refused {
@@ -198,5 +245,35 @@ pub fn close(
                 rows: ds.len(),
             }
         }
+    }
+}
+
+// The rows from a place on, and the closing, after the header.
+pub fn read_rest(
+    bytes: &[u8],
+    at: usize,
+    head: Header,
+    delays: &mut [u32],
+    offsets: &mut [u32],
+) -> PlanRead
+    requires { ⌜ InRange head ⌝ }
+    ensures { λ r. ⌜ Gives
+        (restGives (now (bytes .entry)) at head (now (delays .entry)) (now (offsets .entry)))
+        r (now (delays .exit)) (now (offsets .exit)) ⌝ }
+{
+    let mut ds = [0u32; MAX_ROWS];
+    let mut os = [0u32; MAX_ROWS];
+    match head {
+        Header::Refused { number, place } => PlanRead::Refused { number, place },
+        Header::Read {
+            link,
+            rows,
+            next: _,
+        } => match read_rows(bytes, at, link.period, rows, &mut ds, &mut os) {
+            RowsRead::Refused { number, place } => PlanRead::Refused { number, place },
+            RowsRead::End { next: end } => {
+                close(bytes, end, link, &ds[..rows], &os[..rows], delays, offsets)
+            }
+        },
     }
 }

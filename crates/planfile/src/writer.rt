@@ -6,18 +6,17 @@ use link::Link;
 use link::limits::MAX_ROWS;
 use link::limits::NOT_CLEAR;
 ghost use mathlib.Core.Path.{_≡_};
-ghost use mathlib.Core.List.{_++_};
 ghost use Prim.Native.Nat.{_+_, _≤_};
-ghost use lib.ListN.{length, drop};
+ghost use lib.ListN.{length};
 ghost use Rattle.link.specs.Limits.{maxPeriod, maxRows};
 ghost use Rattle.planfile.specs.Format.{headerBytes, rowsBytes, headerRoom, rowsRoom, Put, RowsFit};
 ghost use Rattle.planfile.specs.Reading.{judgment};
 
 // Four bytes for the tag, and at most four for each of the 3 + 2 * 64 numbers.
-pub const ROOM: usize = 4 * (1 + 3 + 2 * MAX_ROWS);
+pub(crate) const ROOM: usize = 4 * (1 + 3 + 2 * MAX_ROWS);
 
 // A plan to write or to read: what the checker refuses, and 18 where two rows meet.
-pub fn judge(link: Link, delays: &[u32], offsets: &[u32]) -> Judged
+pub(crate) fn judge(link: Link, delays: &[u32], offsets: &[u32]) -> Judged
     ensures { λ r. ⌜ r ≡ judgment link (now (delays .entry)) (now (offsets .entry)) ⌝ }
 {
     match checker::check(link, delays, offsets) {
@@ -34,20 +33,8 @@ pub fn judge(link: Link, delays: &[u32], offsets: &[u32]) -> Judged
     }
 }
 
-// The front of a buffer is replaced.
-pub fn copy_out(from: &[u8], to: &mut [u8])
-    requires { ⌜ length (now from) ≤ length (now to) ⌝ }
-    ensures { λ _. ⌜ now (to .exit) ≡ now (from .entry) ++ drop (length (now (from .entry))) (now (to .entry)) ⌝ }
-{
-    let mut i = 0;
-    while i < from.len() {
-        to[i] = from[i];
-        i += 1;
-    }
-}
-
 // Writes period, size and the number of rows.
-pub fn put_header(link: Link, rows: usize, file: &mut [u8], at: usize) -> usize
+pub(crate) fn put_header(link: Link, rows: usize, file: &mut [u8], at: usize) -> usize
     requires { ⌜ (at + headerRoom ≤ length (now file)) × (link .period ≤ maxPeriod) × (link .size ≤ maxPeriod) × (rows ≤ maxRows) ⌝ }
     ensures { λ r. ⌜ Put (now (file .entry)) at (headerBytes link rows) (now (file .exit)) r ⌝ }
 {
@@ -57,7 +44,7 @@ pub fn put_header(link: Link, rows: usize, file: &mut [u8], at: usize) -> usize
 }
 
 // Writes delay and offset of each row.
-pub fn put_rows(delays: &[u32], offsets: &[u32], file: &mut [u8], from: usize) -> usize
+pub(crate) fn put_rows(delays: &[u32], offsets: &[u32], file: &mut [u8], from: usize) -> usize
     requires { ⌜ RowsFit (now delays) (now offsets) ⌝ }
     requires { ⌜ from + rowsRoom ≤ length (now file) ⌝ }
     ensures { λ r. ⌜ Put (now (file .entry)) from (rowsBytes (now (delays .entry)) (now (offsets .entry))) (now (file .exit)) r ⌝ }

@@ -1,6 +1,4 @@
 -- Laws that belong to no one function.
-pub mod Whole
-pub mod PlainCall
 pub mod Lengths
 pub mod NoLength
 pub mod Pairing

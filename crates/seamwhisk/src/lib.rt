@@ -184,7 +184,7 @@ pub extern "C" fn seamwhisk_read_plan(
     ensures { λ _. ⌜ gives (now (answer .exit)) (lists (now (delays .exit)) (now (offsets .exit)))
         ≡ asNumbers fileAs (readGives (now (file .entry)) (now (delays .entry)) (now (offsets .entry))) ⌝ }
 {
-    match planfile::read_plan(file, delays, offsets) {
+    match filereader::read_plan(file, delays, offsets) {
         PlanRead::Plan { link, rows } => {
             fill::five(
                 answer,

@@ -10,7 +10,7 @@ use Rattle.planfile.specs.Format.{planBytes, Put}
 use Rattle.planfile.specs.Reading.{judgment}
 use Rattle.planfile.specs.Answer.{writtenSaid}
 use Rattle.planfile.proofs.Judgment.{judged-clear}
-use Rattle.planfile.proofs.Writing.{length-header, length-rows, rows-fit, write-fault, write-short, write-done, plan-put}
+use Rattle.planfile.proofs.Writing.{length-header, length-rows, rows-fit, write-fault, write-short, write-done, plan-put, copied-whole}
 use borrow.Author.Needs.{needs}
 use Rattle.planfile.proofs.write_plan.Statement.{statement}
 use Rattle.planfile.proofs.write_plan.Tie as tie
@@ -26,7 +26,7 @@ put : (c : tie.After-put-rows) → Put [] 0 (planOf c) (c .put-rows .last .1 .1 
 put c =
     let h = c .before .before .before in
     plan-put _ _ _ _ _ (h .put-header .last .1 .1 .0) (c .put-rows .last .1 .1 .0) (h .put-header .result) (c .put-rows .result)
-    (h .before .before .before .copy-out .ensures) (h .put-header .ensures) (c .put-rows .ensures)
+    (h .before .before .before .copy .ensures .1) (h .put-header .ensures) (c .put-rows .ensures)
 
 long : (c : tie.After-put-rows) → c .put-rows .result ≡ length (planOf c)
 long c = omega (arith, put c .0)
@@ -44,7 +44,7 @@ fits c =
       c .put-rows .kept .1 .1 .0,
       h .put-header .ensures .0,
       h .put-header .kept .1 .1 .0,
-      w .copy-out .kept .1 .0,
+      w .copy .kept .1 .0,
       length-header (u .link) (length (u .delays .now)),
       length-rows (u .delays .now) (u .offsets .now),
       g .table .rows-high,
@@ -64,14 +64,14 @@ enum-known-number c = search needs
 enum-told : tie.Need-enum-told
 enum-told c = search needs
 
-slice-aggregate-copy-out : tie.Need-slice-aggregate-copy-out
-slice-aggregate-copy-out c = search needs
+slice-aggregate-copy : tie.Need-slice-aggregate-copy
+slice-aggregate-copy c = search needs
 
-slice-aggregate-copy-out-2 : tie.Need-slice-aggregate-copy-out-2
-slice-aggregate-copy-out-2 c = search needs
+slice-aggregate-copy-2 : tie.Need-slice-aggregate-copy-2
+slice-aggregate-copy-2 c = search needs
 
-copy-out-requires : tie.Need-copy-out-requires
-copy-out-requires c κs = search needs
+copy-requires : tie.Need-copy-requires
+copy-requires c κs = search needs
 
 slice-aggregate-put-header : tie.Need-slice-aggregate-put-header
 slice-aggregate-put-header c = search needs
@@ -80,7 +80,7 @@ put-header-requires : tie.Need-put-header-requires
 put-header-requires c κs =
     let t = c .before .before .before .before .before in
     let g = judged-clear _ _ _ (sym (t .before .before .judge .ensures) ∙ t .enum-told .given .1) .0 in (
-      omega (arith, c .before .before .copy-out .kept .1 .0),
+      omega (arith, c .before .before .copy .kept .1 .0),
       g .table .period-high,
       omega (arith, g .table .span-high, g .table .period-high),
       g .table .rows-high,
@@ -101,7 +101,7 @@ put-rows-requires c κs =
         arith,
         h .put-header .ensures .0,
         h .put-header .kept .1 .1 .0,
-        w .copy-out .kept .1 .0,
+        w .copy .kept .1 .0,
         length-header (u .link) (length (u .delays .now)),
       ),
     )
@@ -116,11 +116,11 @@ returns c =
 array-share-prefix-file : tie.Need-array-share-prefix-file
 array-share-prefix-file c = fits (c .before .before)
 
-slice-aggregate-copy-out-3 : tie.Need-slice-aggregate-copy-out-3
-slice-aggregate-copy-out-3 c = sym (length-take-le _ _ (fits (c .before .before .before)))
+slice-aggregate-copy-3 : tie.Need-slice-aggregate-copy-3
+slice-aggregate-copy-3 c = sym (length-take-le _ _ (fits (c .before .before .before)))
 
-copy-out-requires-2 : tie.Need-copy-out-requires-2
-copy-out-requires-2 c κs =
+copy-requires-2 : tie.Need-copy-requires-2
+copy-requires-2 c κs =
     let p = c .before .before .before .before in
     omega (arith, length-take-le (p .put-rows .result) (p .put-rows .last .1 .1 .0) (fits p), c .before .before .if1 .left)
 
@@ -136,7 +136,7 @@ unfolding writtenSaid
 returns-3 c =
     let p = c .before .before .before .before .before .before .before in
     let room : length (planOf p) ≤ length (start p .args .buffer .now) = omega (arith, long p) in
-    rw (write-done _ _ _ _ (fine p) room, long p) (refl, rw (put p .1) at (c .before .before .copy-out2 .ensures))
+    rw (write-done _ _ _ _ (fine p) room, long p) (refl, copied-whole _ _ _ _ (c .before .before .copy2 .ensures .1) (put p .1))
 
 pub write-plan-spec : {M : Type 1} → statement M
 write-plan-spec =
@@ -145,17 +145,17 @@ write-plan-spec =
     judge-requires
     enum-known-number
     enum-told
-    slice-aggregate-copy-out
-    slice-aggregate-copy-out-2
-    copy-out-requires
+    slice-aggregate-copy
+    slice-aggregate-copy-2
+    copy-requires
     slice-aggregate-put-header
     put-header-requires
     slice-aggregate-put-rows
     put-rows-requires
     returns
     array-share-prefix-file
-    slice-aggregate-copy-out-3
-    copy-out-requires-2
+    slice-aggregate-copy-3
+    copy-requires-2
     returns-2
     same-length
     returns-3)

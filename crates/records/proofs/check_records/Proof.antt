@@ -65,7 +65,7 @@ use Rattle.records.proofs.Seen as S
 use Rattle.records.proofs.Seen.Laws as S′
 use Rattle.records.proofs.Turns.{blank, Turn, Nearer, Nearer-wf, inside, small, fits, next-fits, scaled, row-at}
 use Rattle.records.proofs.Turns.{first-turn, next-turn, nearer, all-seen}
-use Rattle.records.proofs.Whole.{local, sets, gets}
+use Rattle.walks.proofs.Whole.{local, sets, gets}
 use Rattle.records.proofs.check_records.Key.{name as #records·check-records}
 use Rattle.records.proofs.check_records as f
 use Rattle.records.proofs.check_records.Statement as stated

@@ -55,7 +55,7 @@ use Rattle.checker.proofs.Checked.Laws as Ch′
 use Rattle.records.specs.Columns.{delaysOf, offsetsOf}
 use Rattle.records.specs.declared.Record.{Record}
 use Rattle.records.proofs.Record as R
-use Rattle.records.proofs.Whole.{local, sets, gets}
+use Rattle.walks.proofs.Whole.{local, sets, gets}
 use Rattle.records.proofs.check_records as check
 use Rattle.records.proofs.check_records.Symbol as check-def
 use Rattle.records.proofs.check_records.Symbol.{name as #records·check-records}

@@ -8,7 +8,7 @@ use Rattle.planfile.proofs.reader.close.Tie as tie
 
 returns : tie.Need-returns
 unfolding readSaid
-returns c = rw (left-over _ _ _ _ _ _ _ (c .if1 .taken)) (refl, (refl, refl))
+returns c = rw (left-over _ _ _ _ _ _ _ (c .if1 .taken)) (refl, refl, refl)
 
 judge-requires : tie.Need-judge-requires
 judge-requires c κs = search needs
@@ -24,14 +24,14 @@ unfolding readSaid
 returns-2 c =
     let j = c .before .before .before in
     let fine = sym (j .judge .ensures) ∙ c .before .enum-told .given .1 in
-    rw (short-delays _ _ _ _ _ _ _ (j .before .if1 .left) fine (c .if2 .taken)) (refl, (refl, refl))
+    rw (short-delays _ _ _ _ _ _ _ (j .before .if1 .left) fine (c .if2 .taken)) (refl, refl, refl)
 
 returns-3 : tie.Need-returns-3
 unfolding readSaid
 returns-3 c =
     let j = c .before .before .before .before in
     let fine = sym (j .judge .ensures) ∙ c .before .before .enum-told .given .1 in
-    rw (short-offsets _ _ _ _ _ _ _ (j .before .if1 .left) fine (c .if3 .taken)) (refl, (refl, refl))
+    rw (short-offsets _ _ _ _ _ _ _ (j .before .if1 .left) fine (c .if3 .taken)) (refl, refl, refl)
 
 copy-out-requires : tie.Need-copy-out-requires
 copy-out-requires c κs = search needs
@@ -43,7 +43,7 @@ returns-4 : tie.Need-returns-4
 unfolding readSaid
 returns-4 c =
     let j = c .before .before .before in
-    rw (unclear _ _ _ _ _ _ _ (j .before .if1 .left) _ _ (sym (j .judge .ensures) ∙ c .before .number .given .1)) (refl, (refl, refl))
+    rw (unclear _ _ _ _ _ _ _ (j .before .if1 .left) _ _ (sym (j .judge .ensures) ∙ c .before .number .given .1)) (refl, refl, refl)
 
 same-length : tie.Need-same-length
 same-length c = search needs
@@ -59,7 +59,7 @@ returns-5 c =
     let j = t .before .before in
     rw (copied-out _ _ _ _ _ _ _ (j .before .if1 .left) (sym (j .judge .ensures) ∙ t .enum-told .given .1)
     (e .before .before .before .if2 .left) (e .before .before .if3 .left))
-    (refl, (e .copy-out .ensures, c .before .before .copy-out2 .ensures))
+    (refl, e .copy-out .ensures, c .before .before .copy-out2 .ensures)
 
 pub close-spec : {M : Type 1} → statement M
 close-spec =

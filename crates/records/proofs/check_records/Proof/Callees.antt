@@ -40,7 +40,8 @@ use Rattle.records.proofs.Record as R
 use Rattle.records.proofs.Record.Laws as R′
 use Rattle.records.proofs.Seen as S
 use Rattle.records.proofs.Seen.Laws as S′
-use Rattle.records.proofs.PlainCall.{Callee, calls-plain}
+use Rattle.walks.proofs.Called.{Callee}
+use Rattle.walks.proofs.PlainCall.{calls-plain}
 use Rattle.records.proofs.to_read as to-read
 use Rattle.records.proofs.to_read.Symbol as to-read-def
 use Rattle.records.proofs.to_read.Symbol.{name as #records·to-read}

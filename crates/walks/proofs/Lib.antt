@@ -1,0 +1,8 @@
+-- The rules of a walk that belong to no one function.
+pub mod Clauses
+pub mod Whole
+pub mod Locals
+pub mod Called
+pub mod HeldCall
+pub mod PlainCall
+pub mod Walk

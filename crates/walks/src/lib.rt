@@ -1,0 +1,1 @@
+// The rules that proofs by hand share: in proofs/, and no code.
