@@ -6,7 +6,7 @@ use Rattle.link.specs.Limits.{maxPeriod, badPeriod}
 use Rattle.ground.specs.Judging.{outside}
 use Rattle.ground.proofs.Answers as unique
 use Rattle.planfile.specs.Number.{readNumber, groupsRead, onto, ending}
-use Rattle.planfile.specs.Reading.{Step, got, stopped, after, number}
+use Rattle.planfile.specs.FileMeaning.{Step, got, stopped, after, number}
 use Rattle.planfile.specs.Answer.{taken}
 use Rattle.planfile.specs.declared.Taken.{Taken}
 use Rattle.planfile.specs.declared.Taken.the-variants.{Value, Refused}

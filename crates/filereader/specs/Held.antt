@@ -2,7 +2,7 @@
 use mathlib.Core.Path.{_≡_}
 use Prim.Native.Nat.{ℕ}
 use denote.Ref.{now}
-use Rattle.planfile.specs.Reading.{after, number}
+use Rattle.planfile.specs.FileMeaning.{after, number}
 use Rattle.planfile.specs.Answer.{taken}
 use Rattle.filereader.specs.declared.FileReader.{FileReader}
 use Rattle.filereader.specs.declared.NumberRead.{NumberRead}

@@ -7,6 +7,10 @@ use Rattle.link.specs.Limits.{maxPeriod, maxDelay, maxRows}
 use Rattle.link.specs.Rows.{spanOf}
 use Rattle.link.specs.declared.Link.{Link}
 
+-- the link of an answer that has none: "Fields of an answer that don't apply are 0"
+abbrev pub noLink : Link
+noLink = record { period = 0; size = 0 }
+
 pub record GoodTable (k : Link) (ds : List ℕ) : Type 0 where
   pub period-low : 1 ≤ k .period
   pub period-high : k .period ≤ maxPeriod

@@ -11,7 +11,7 @@ use Rattle.ground.specs.Judging.{outside}
 use Rattle.link.specs.declared.Link.{Link}
 use Rattle.ground.proofs.Bools.{clash, or-none}
 use Rattle.planfile.specs.Number.{readNumber}
-use Rattle.planfile.specs.Reading.{Step, got, stopped, passing, ranged, number, Head, header}
+use Rattle.planfile.specs.FileMeaning.{Step, got, stopped, passing, ranged, number, Head, header}
 use Rattle.planfile.specs.declared.Number.{Number}
 use Rattle.planfile.specs.declared.Number.the-variants.{Value, Cut, TooLong, Needless}
 

@@ -7,10 +7,12 @@ use lib.ListN.{length}
 use borrow.Author.Tests.{lt-ltb, le-ltb}
 use Rattle.link.specs.Limits.{badLength}
 use Rattle.link.specs.declared.Link.{Link}
+use Rattle.ground.specs.Judging.{first}
+use Rattle.checker.specs.Judging.{clearFaults}
 use Rattle.ground.specs.declared.Judged.the-variants.{Fine, Fault}
 use Rattle.planfile.specs.Causes.{leftOver}
-use Rattle.planfile.specs.Reading.{Step, got, stopped, Rows, judgment, closing}
-use Rattle.planfile.specs.Answer.{refuses, readsPlan, onFront, delivered, rowsed}
+use Rattle.planfile.specs.FileMeaning.{Step, got, stopped, Rows, closing}
+use Rattle.planfile.specs.Answer.{refuses, delivers, delivered, rowsed}
 use Rattle.planfile.specs.declared.RowsRead.{RowsRead}
 use Rattle.planfile.specs.declared.RowsRead.the-variants.{End, Refused}
 
@@ -30,11 +32,11 @@ module _ (bs : List ℕ) (k : Link) (ds os : List ℕ) (at : ℕ) (oldD oldO : L
   left-over h = rw (lt-ltb _ _ h)
 
   module _ (all : length bs ≤ at) where
-    pub unclear : (n p : ℕ) → judgment k ds os ≡ Fault n p → delivered (closing bs k ds os at) oldD oldO ≡ refuses n p oldD oldO
+    pub unclear : (n p : ℕ) → first (clearFaults k ds os) ≡ Fault n p → delivered (closing bs k ds os at) oldD oldO ≡ refuses n p oldD oldO
     unfolding closing delivered
     unclear n p e = rw (le-ltb _ _ all, e)
 
-    module _ (fine : judgment k ds os ≡ Fine) where
+    module _ (fine : first (clearFaults k ds os) ≡ Fine) where
       pub short-delays : length oldD < length ds → delivered (closing bs k ds os at) oldD oldO ≡ refuses badLength 0 oldD oldO
       unfolding closing delivered
       short-delays h = rw (le-ltb _ _ all, fine, lt-ltb _ _ h)
@@ -44,10 +46,6 @@ module _ (bs : List ℕ) (k : Link) (ds os : List ℕ) (at : ℕ) (oldD oldO : L
       short-offsets h = rw (le-ltb _ _ all, fine, lt-ltb _ _ h, or-true)
 
       pub copied-out : length ds ≤ length oldD → length os ≤ length oldO →
-          delivered (closing bs k ds os at) oldD oldO ≡ record {
-            says = readsPlan k (length ds);
-            delays = onFront ds oldD;
-            offsets = onFront os oldO;
-          }
+          delivered (closing bs k ds os at) oldD oldO ≡ delivers k ds os oldD oldO
       unfolding closing delivered
       copied-out h l = rw (le-ltb _ _ all, fine, le-ltb _ _ h, le-ltb _ _ l)

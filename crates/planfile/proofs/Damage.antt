@@ -6,15 +6,17 @@ use Prim.Native.Nat.{ℕ, zero, suc, _+_, _-_, _≤_, _<_}
 use native.Mathlib.Omega.{arith}
 use lib.ListN.{length, take, drop, length-append}
 use lib.Seq.{take-append-le, take-append-add}
-use Rattle.link.specs.Limits.{maxPeriod, maxDelay, maxRows, badPeriod, badSize, badDelay, badRows, badOffset, badFile}
+use Rattle.link.specs.Limits.{maxPeriod, maxDelay, maxRows, badPeriod, badSize, badDelay, badRows, badOffset}
+use Rattle.planfile.specs.Causes.{badFile}
 use Rattle.link.specs.Range.{GoodTable, GoodPlan}
 use Rattle.link.specs.declared.Link.{Link}
 use Rattle.ground.proofs.Bools.{lt-or-ge}
 use Rattle.planfile.specs.Causes.{cutOff}
 use Rattle.planfile.specs.Number.{numberBytes, formFault}
 use Rattle.planfile.specs.Format.{tag, headerBytes, rowsBytes, planBytes}
-use Rattle.planfile.specs.Reading.{Step, got, stopped, passing, number, begins, header, row, rows, Meaning, refused, means, body}
-use Rattle.planfile.specs.Reading.{meaning}
+use Rattle.planfile.specs.FileMeaning.{Step, got, stopped, passing, number, header, row, rows, Meaning, refused, means, body}
+use Rattle.ground.specs.Words.{begins}
+use Rattle.planfile.specs.FileMeaning.{meaning}
 use Rattle.planfile.specs.declared.Number.the-variants.{Cut}
 use Rattle.planfile.proofs.Encoding.{number-cut}
 use Rattle.planfile.proofs.Steps.{number-form}

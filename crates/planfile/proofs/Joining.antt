@@ -9,8 +9,9 @@ use Rattle.link.specs.declared.Link.{Link}
 use Rattle.planfile.specs.Bytes.{Bytes}
 use Rattle.planfile.specs.Causes.{wrongTag}
 use Rattle.planfile.specs.Format.{tag}
-use Rattle.planfile.specs.Reading.{Step, got, stopped, after, begins, Head, header, tagged, rows, Meaning, refused, means}
-use Rattle.planfile.specs.Reading.{closing, rest, body, meaning}
+use Rattle.planfile.specs.FileMeaning.{Step, got, stopped, after, Head, header, tagged, rows, Meaning, refused, means}
+use Rattle.ground.specs.Words.{begins}
+use Rattle.planfile.specs.FileMeaning.{closing, rest, body, meaning}
 use Rattle.planfile.specs.Answer.{headed, InRange, refuses, delivered, restGives, ReadGives, Gives, readGives, IsFileOf}
 use Rattle.planfile.specs.declared.Header.{Header}
 use Rattle.planfile.specs.declared.Header.the-variants.{Read, Refused}

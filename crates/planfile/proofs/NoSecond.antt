@@ -1,10 +1,11 @@
 -- No second answer, and no second content of lent memory, meets a contract. Assumes nothing.
-use mathlib.Core.Path.{_≡_, refl, sym, _∙_}
+use mathlib.Core.Path.{_≡_, refl, ap}
 use mathlib.Core.List.{List}
 use Prim.Native.Nat.{ℕ}
 use Rattle.link.specs.declared.Link.{Link}
-use Rattle.ground.proofs.Answers as unique
-use Rattle.planfile.specs.Answer.{Verdict, done, refusal, ReadSaid, readSaid, Gives, readGives}
+use Rattle.ground.specs.Protocol.{gives}
+use Rattle.ground.proofs.Answers.{no-second-outcome}
+use Rattle.planfile.specs.Answer.{Verdict, done, refusal, ReadSaid, readSaid, Lists, Gives, readGives}
 use Rattle.planfile.specs.Answer.{WrittenSaid, writtenSaid, writeGives}
 use Rattle.planfile.specs.declared.PlanRead.{PlanRead}
 use Rattle.planfile.specs.declared.PlanRead.the-variants.{Plan, Refused as ReadRefused}
@@ -15,7 +16,7 @@ abbrev unread : ReadSaid → PlanRead
 unread s = unreadAs (s .verdict) s
   where
     unreadAs : Verdict → ReadSaid → PlanRead
-    unreadAs done s = Plan (record { period = s .period; size = s .size }) (s .rows)
+    unreadAs done s = Plan (s .link) (s .rows)
     unreadAs refusal s = ReadRefused (s .number) (s .place)
 
 read-again : (r : PlanRead) → unread (readSaid r) ≡ r
@@ -27,7 +28,8 @@ read-again (ReadRefused n p) = refl
 pub no-second-reading : (bs oldD oldO : List ℕ) (r r′ : PlanRead) (ds ds′ os os′ : List ℕ) → Gives (readGives bs oldD oldO) r ds os →
     Gives (readGives bs oldD oldO) r′ ds′ os′ → (r ≡ r′) × (ds ≡ ds′) × (os ≡ os′)
 no-second-reading bs oldD oldO r r′ ds ds′ os os′ w v =
-    (unique.no-second readSaid unread read-again (w .0) (v .0), w .1 ∙ sym (v .1), w .2 ∙ sym (v .2))
+    let same = no-second-outcome readSaid unread read-again w v in
+    (same .0, ap (λ (l : Lists). l .delays) (same .1), ap (λ (l : Lists). l .offsets) (same .1))
 
 abbrev unwritten : WrittenSaid → PlanWritten
 unwritten s = unwrittenAs (s .verdict) s
@@ -41,11 +43,7 @@ unfolding writtenSaid
 written-again (File n) = refl
 written-again (WriteRefused n p) = refl
 
--- an answer and a buffer as the contract of `write_plan` has them
-abbrev pub WriteMeets : Link → List ℕ → List ℕ → List ℕ → PlanWritten → List ℕ → Type 0
-WriteMeets k ds os old r bs = (writtenSaid r ≡ writeGives k ds os old .says) × (bs ≡ writeGives k ds os old .leaves)
-
-pub no-second-writing : (k : Link) (ds os old : List ℕ) (r r′ : PlanWritten) (bs bs′ : List ℕ) → WriteMeets k ds os old r bs →
-    WriteMeets k ds os old r′ bs′ →
-    (r ≡ r′) × (bs ≡ bs′)
-no-second-writing k ds os old r r′ bs bs′ w v = (unique.no-second writtenSaid unwritten written-again (w .0) (v .0), w .1 ∙ sym (v .1))
+-- of the writer: an answer and the buffer
+pub no-second-writing : (k : Link) (ds os old : List ℕ) (r r′ : PlanWritten) (bs bs′ : List ℕ) → gives (writtenSaid r) bs ≡ writeGives k ds os old →
+    gives (writtenSaid r′) bs′ ≡ writeGives k ds os old → (r ≡ r′) × (bs ≡ bs′)
+no-second-writing k ds os old r r′ bs bs′ = no-second-outcome writtenSaid unwritten written-again

@@ -4,22 +4,27 @@ use mathlib.Core.Bool.{Bool, true, false, cond}
 use mathlib.Core.List.{List, [], _∷_, _++_, append-assoc, append-nil}
 use Prim.Native.Nat.{ℕ, zero, suc, _+_, _-_, _≤_, _<_}
 use native.Mathlib.Omega.{arith}
-use lib.Dec.{ltb, eqb}
+use lib.Dec.{ltb}
 use lib.ListN.{length, getD, drop, drop-of-length-le}
 use lib.Seq.{drop-drop}
-use borrow.Author.Tests.{ltb-false, eqb-true}
+use borrow.Author.Tests.{ltb-false}
 use Rattle.link.specs.Limits.{maxDelay, badDelay, badOffset}
 use Rattle.link.specs.Range.{GoodPlan}
 use Rattle.link.specs.declared.Link.{Link}
-use Rattle.ground.specs.declared.Judged.{Judged}
-use Rattle.ground.specs.declared.Judged.the-variants.{Fine, Fault}
-use Rattle.ground.proofs.Bools.{clash, and-parts}
+use Rattle.ground.specs.Judging.{first}
+use Rattle.checker.specs.Judging.{clearFaults}
+use Rattle.ground.specs.declared.Judged.the-variants.{Fine}
+use Rattle.ground.specs.Protocol.{unless}
+use Rattle.ground.proofs.Answers.{let-through}
+use Rattle.ground.proofs.Bools.{never}
 use Rattle.planfile.specs.Bytes.{Bytes}
 use Rattle.planfile.specs.Causes.{wrongTag, leftOver}
 use Rattle.planfile.specs.Number.{numberBytes}
 use Rattle.planfile.specs.Format.{tag, headerBytes, rowsBytes, planBytes}
-use Rattle.planfile.specs.Reading.{Step, got, stopped, number, begins, header, Row, row, Rows, rows, Meaning, plan, refused}
-use Rattle.planfile.specs.Reading.{means, unless, judgment, closing, body, meaning}
+use Rattle.planfile.specs.FileMeaning.{Step, got, stopped, number, header, Row, row, Rows, rows, Meaning, plan, refused}
+use Rattle.ground.specs.Words.{begins}
+use Rattle.planfile.specs.FileMeaning.{means, closing, body, meaning}
+use Rattle.ground.proofs.Beginning.{begins-with}
 use Rattle.planfile.proofs.Encoding.{drop-bytes, number-only}
 use Rattle.planfile.proofs.RoundTrip.{three}
 use Rattle.planfile.proofs.Accepting.{value-of, place-of, before, Took, took, Headed, headed}
@@ -138,19 +143,6 @@ got-good bs k n at w end h e f =
       offsets = λ i l. omega (arith, g .low-offsets i l);
     })
 
--- the bytes that begin with a list are that list and the rest
-begins-with : (ts bs : List ℕ) → begins ts bs ≡ true → bs ≡ ts ++ drop (length ts) bs
-unfolding begins
-begins-with [] bs e = refl
-begins-with (t ∷ ts) [] e = clash {x = false} e refl
-begins-with (t ∷ ts) (b ∷ bs) e =
-    let w = and-parts (eqb b t) (begins ts bs) e in
-    rw (eqb-true b t (w .0)) (ap (λ (xs : List ℕ). t ∷ xs) (begins-with ts bs (w .1)))
-
-abbrev isPlan : Meaning → Bool
-isPlan (plan k ds os) = true
-isPlan (refused n p) = false
-
 -- what came before a plan
 record Came {A : Type 0} (s : Step A) (f : A → ℕ → Meaning) (m : Meaning) : Type 0 where
   value : A
@@ -160,12 +152,12 @@ record Came {A : Type 0} (s : Step A) (f : A → ℕ → Meaning) (m : Meaning) 
 
 came : {A : Type 0} (s : Step A) (f : A → ℕ → Meaning) (k : Link) (ds os : List ℕ) → means s f ≡ plan k ds os → Came s f (plan k ds os)
 came (got a n) f k ds os e = record { value = a; place = n; here = refl; after = e }
-came (stopped n p) f k ds os e = clash {x = isPlan (refused n p)} (ap isPlan e) refl
+came (stopped n p) f k ds os e = never (cc)
 
 -- a plan was closed: nothing is left over, the judgment is fine, and it is that plan
 record Closed (bs : List ℕ) (k k′ : Link) (ds ds′ os os′ : List ℕ) (at : ℕ) : Type 0 where
   all : length bs ≤ at
-  fine : judgment k′ ds′ os′ ≡ Fine
+  fine : first (clearFaults k′ ds′ os′) ≡ Fine
   same-link : k ≡ k′
   same-delays : ds ≡ ds′
   same-offsets : os ≡ os′
@@ -173,20 +165,21 @@ record Closed (bs : List ℕ) (k k′ : Link) (ds ds′ os os′ : List ℕ) (at
 closed : (bs : List ℕ) (k k′ : Link) (ds ds′ os os′ : List ℕ) (at : ℕ) → closing bs k ds os at ≡ plan k′ ds′ os′ →
     Closed bs k k′ ds ds′ os os′ at
 unfolding closing
-closed bs k k′ ds ds′ os os′ at e = go (ltb at (length bs)) (judgment k ds os) refl refl e
+closed bs k k′ ds ds′ os os′ at e = go (ltb at (length bs)) refl e
   where
-    go : (b : Bool) (j : Judged) → ltb at (length bs) ≡ b → judgment k ds os ≡ j →
-        cond b (refused leftOver at) (unless j (plan k ds os)) ≡ plan k′ ds′ os′ →
+    go : (b : Bool) → ltb at (length bs) ≡ b →
+        cond b (refused leftOver at) (unless refused (first (clearFaults k ds os)) (plan k ds os)) ≡ plan k′ ds′ os′ →
         Closed bs k k′ ds ds′ os os′ at
-    go true j b-is j-is f = clash {x = isPlan (refused leftOver at)} (ap isPlan f) refl
-    go false (Fault n q) b-is j-is f = clash {x = isPlan (refused n q)} (ap isPlan f) refl
-    go false Fine b-is j-is f =
+    go true b-is f = never (cc)
+    go false b-is f =
+        let w = let-through refused (first (clearFaults k ds os)) (λ n q h. never (cc)) (sym f) in
+        let same = w .1 in
         let k-is : k ≡ k′ = cc in
         let d-is : ds ≡ ds′ = cc in
         let o-is : os ≡ os′ = cc in
         record {
           all = ltb-false at (length bs) b-is;
-          fine = rw (← k-is, ← d-is, ← o-is) j-is;
+          fine = rw (← k-is, ← d-is, ← o-is) (w .0);
           same-link = k-is;
           same-delays = d-is;
           same-offsets = o-is;
@@ -195,7 +188,7 @@ closed bs k k′ ds ds′ os os′ at e = go (ltb at (length bs)) (judgment k ds
 -- the bytes of an accepted file, and that its plan is judged fine
 pub record Accepted (bs : List ℕ) (k : Link) (ds os : List ℕ) : Type 0 where
   pub bytes : bs ≡ planBytes k ds os
-  pub fine : judgment k ds os ≡ Fine
+  pub fine : first (clearFaults k ds os) ≡ Fine
 
 body-accepted : (bs : List ℕ) (k : Link) (ds os : List ℕ) → Bytes bs → bs ≡ tag ++ drop 4 bs → body bs 4 ≡ plan k ds os →
     Accepted bs k ds os
@@ -220,4 +213,4 @@ accepted bs k ds os h e = go (begins tag bs) refl e
   where
     go : (b : Bool) → begins tag bs ≡ b → cond b (body bs (length tag)) (refused wrongTag 0) ≡ plan k ds os → Accepted bs k ds os
     go true t f = body-accepted bs k ds os h (begins-with tag bs t) f
-    go false t f = clash {x = isPlan (refused wrongTag 0)} (ap isPlan f) refl
+    go false t f = never (cc)

@@ -10,7 +10,8 @@ use Rattle.link.specs.Range.{GoodTable, GoodPlan}
 use Rattle.link.specs.declared.Link.{Link}
 use Rattle.planfile.specs.Number.{numberBytes}
 use Rattle.planfile.specs.Format.{tag, headerBytes, rowsBytes, planBytes}
-use Rattle.planfile.specs.Reading.{Step, got, number, begins, header, row, Rows, rows, closing, body, meaning}
+use Rattle.planfile.specs.FileMeaning.{Step, got, number, header, row, Rows, rows, closing, body, meaning}
+use Rattle.ground.specs.Words.{begins}
 use Rattle.planfile.proofs.Numbers.{few-groups}
 use Rattle.planfile.proofs.Encoding.{number-reads}
 use Rattle.planfile.proofs.Steps.{number-in}

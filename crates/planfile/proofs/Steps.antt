@@ -5,36 +5,16 @@ use mathlib.Core.List.{List, []}
 use Prim.Native.Nat.{ℕ, zero, suc, _+_, _-_, _≤_, _<_}
 use native.Mathlib.Omega.{arith}
 use native.Mathlib.Numerals.{add-one}
-use lib.ListN.{length, getD, take, drop, set, drop-of-length-le, length-drop, length-set}
-use lib.Seq.{drop-cons, take-suc-set}
-use borrow.Author.Tests.{eq-eqb, ne-eqb}
+use lib.ListN.{length, take, drop, set, length-drop, length-set}
+use lib.Seq.{take-suc-set}
 use Rattle.ground.proofs.Bools.{clash}
 use Rattle.ground.proofs.Faults.{below, above, inside}
 use Rattle.planfile.specs.Number.{readNumber, formFault}
-use Rattle.planfile.specs.Reading.{got, stopped, begins, ranged, number, row, rows}
+use Rattle.planfile.specs.FileMeaning.{got, stopped, ranged, number, row, rows}
 use Rattle.planfile.specs.declared.Number.{Number}
 use Rattle.planfile.specs.declared.Number.the-variants.{Value, Cut, TooLong, Needless}
 use Rattle.planfile.proofs.NoValue.{isValue}
 use Rattle.planfile.proofs.Numbers.{small}
-
--- the tag is compared byte by byte, from i on
-module _ (ts bs : List ℕ) (i : ℕ) where
-  pub begins-all : length ts ≤ i → begins (drop i ts) (drop i bs) ≡ true
-  unfolding begins
-  begins-all h = rw (drop-of-length-le ts h)
-
-  pub begins-short : i < length ts → length bs ≤ i → begins (drop i ts) (drop i bs) ≡ false
-  unfolding begins
-  begins-short h k = rw (drop-cons ts i 0 h, drop-of-length-le bs k)
-
-  pub begins-other : i < length ts → i < length bs → (getD bs i 0 ≡ getD ts i 0 → ⊥) → begins (drop i ts) (drop i bs) ≡ false
-  unfolding begins
-  begins-other h k n = rw (drop-cons ts i 0 h, drop-cons bs i 0 k, ne-eqb _ _ n)
-
-  pub begins-same : i < length ts → i < length bs → getD bs i 0 ≡ getD ts i 0 →
-      begins (drop i ts) (drop i bs) ≡ begins (drop (i + 1) ts) (drop (i + 1) bs)
-  unfolding begins
-  begins-same h k e = rw (drop-cons ts i 0 h, drop-cons bs i 0 k, eq-eqb _ _ e, add-one)
 
 form-stops : (at lo hi fault : ℕ) (q : Number) → isValue q ≡ false → stopped (formFault q) at ≡ ranged q at lo hi fault
 form-stops at lo hi fault (Value v n) h = clash {x = true} refl h

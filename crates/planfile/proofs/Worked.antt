@@ -1,24 +1,39 @@
 -- Document 01's worked file and numbers, by computation, and each promise used once on them. Assumes nothing.
-use mathlib.Core.Path.{_≡_, refl, _∙_}
+use mathlib.Core.Path.{_≡_, refl, sym}
+use mathlib.Core.Bool.{true, not}
 use mathlib.Core.List.{List, [], _∷_, _++_}
-use Prim.Native.Nat.{ℕ}
+use Prim.Native.Nat.{ℕ, zero, suc, _<_}
 use native.Mathlib.Omega.{arith}
-use lib.ListN.{take, replicate}
-use Rattle.link.specs.Limits.{badFile}
+use lib.Dec.{ltb}
+use lib.ListN.{getD, take, replicate}
+use borrow.Author.Tests.{ltb-true, not-false}
+use Rattle.ground.specs.Judging.{first, outside, andThen}
 use Rattle.ground.specs.Least.{least, oneMore}
+use Rattle.ground.specs.Words.{begins}
+use Rattle.ground.proofs.Minimum.{none-has}
 use Rattle.link.specs.Slots.{uses, meets}
 use Rattle.link.specs.Rows.{start, second, hits, either, free}
-use Rattle.ground.specs.Judging.{first, outside, andThen}
 use Rattle.link.specs.Refusal.{linkFaults, rowFaults, offsetFaults}
 use Rattle.link.specs.declared.Link.{Link}
-use Rattle.checker.specs.Answer.{blocked, named, answer}
-use Rattle.planfile.specs.Number.{groups, numberBytes, ending, onto, groupsRead, readNumber}
-use Rattle.planfile.specs.Format.{headerBytes, rowsBytes, planBytes}
-use Rattle.planfile.specs.Reading.{plan, judgment, meaning}
-use Rattle.planfile.specs.Answer.{refuses, readsPlan, writes, readGives, writeGives}
+use Rattle.checker.specs.Answer.{blocked}
+use Rattle.checker.specs.Judging.{clearFaults}
+use Rattle.checker.specs.declared.Checked.the-variants.{Collision}
+use Rattle.checker.proofs.Judging.{fine-clear}
+use Rattle.checker.proofs.Promises.{collision-is-first}
+use Rattle.checker.proofs.Worked.{collides, not-clear}
+use Rattle.planfile.specs.Bytes.{Bytes}
+use Rattle.planfile.specs.Number.{limit, groups, numberBytes, ending, onto, groupsRead, readNumber}
+use Rattle.planfile.specs.Format.{tag, headerBytes, rowsBytes, planBytes}
+use Rattle.planfile.specs.FileMeaning.{got, number, header, row, rows, plan, meaning}
 use Rattle.planfile.specs.declared.Number.the-variants.{Needless}
-use Rattle.planfile.proofs.Judgment.{judged-clear}
-use Rattle.planfile.proofs.Promises.{ClearPlan, means-its-plan, writes-its-bytes, read-what-was-written, bytes-added, bytes-cut}
+use Rattle.planfile.specs.declared.PlanRead.{PlanRead}
+use Rattle.planfile.specs.declared.PlanRead.the-variants.{Plan}
+use Rattle.planfile.specs.declared.PlanWritten.{PlanWritten}
+use Rattle.planfile.specs.declared.PlanWritten.the-variants.{File, Refused}
+use Rattle.planfile.proofs.Accepted.{ClearPlan, means-its-plan, AcceptedFile}
+use Rattle.planfile.proofs.Promises.{Writes, Reads, RefusedAt, writes-clear-only, writes-its-bytes, not-clear-not-written}
+use Rattle.planfile.proofs.Promises.{read-what-was-written, one-plan, accepted-is-written, one-file, bytes-added, bytes-cut}
+use Rattle.planfile.proofs.Promises.{one-encoding, after-the-last-number}
 
 -- "10, 2, (0 3 7)" at "0 2 5"
 abbrev pub firstLink : Link
@@ -48,33 +63,107 @@ unfolding numberBytes groups
 largest-delay = refl
 
 -- "Number AC 82 00: 16."
+pub encoded-once : numberBytes 300 ≡ 0xAC ∷ 0x02 ∷ []
+unfolding readNumber groupsRead onto ending limit
+encoded-once = sym (one-encoding (0xAC ∷ 0x02 ∷ []) 300 two-bytes (omega arith) .0 refl)
+  where
+    two-bytes : Bytes (0xAC ∷ 0x02 ∷ [])
+    two-bytes = record { byte = λ i h. low i h }
+      where
+        low : (i : ℕ) → i < 2 → getD (0xAC ∷ 0x02 ∷ []) i 0 < 256
+        low zero h = omega arith
+        low (suc zero) h = omega arith
+        low (suc (suc i)) h = absurd (omega arith)
+
 pub needless-group : readNumber (0xAC ∷ 0x82 ∷ 0x00 ∷ []) ≡ Needless
 unfolding readNumber groupsRead onto ending
 needless-group = refl
 
 pub first-table-is-clear : ClearPlan firstLink delays offsets
-unfolding judgment answer named blocked free hits either start second meets uses least oneMore first outside andThen linkFaults rowFaults offsetFaults
-first-table-is-clear = judged-clear firstLink delays offsets refl
+unfolding clearFaults blocked free hits either start second meets uses least oneMore first outside andThen linkFaults rowFaults offsetFaults
+first-table-is-clear = fine-clear firstLink delays offsets refl
+
+-- each element is a byte
+are-bytes : Bytes file
+unfolding least oneMore
+are-bytes = record { byte = λ i h. ltb-true _ _ (not-false _ (none-has (λ j. not (ltb (getD file j 0) 256)) 13 refl i h)) }
 
 pub file-means-the-first-table : meaning file ≡ plan firstLink delays offsets
 file-means-the-first-table = rw file-of-the-first-table at (means-its-plan firstLink delays offsets first-table-is-clear)
 
--- a buffer and lists longer than needed keep their tails
-pub first-table-written : writeGives firstLink delays offsets (replicate 15 9) ≡ record { says = writes 13; leaves = file ++ (9 ∷ 9 ∷ []) }
-first-table-written = writes-its-bytes firstLink delays offsets (replicate 15 9) first-table-is-clear
-    (rw file-of-the-first-table (omega arith)) ∙ rw file-of-the-first-table
+-- a buffer and lists longer than needed
+abbrev buffer : List ℕ
+buffer = replicate 15 9
 
-pub first-table-read-back : readGives (take 13 (file ++ (9 ∷ 9 ∷ []))) (8 ∷ 8 ∷ 8 ∷ 8 ∷ []) (7 ∷ 7 ∷ 7 ∷ [])
-    ≡ record { says = readsPlan firstLink 3; delays = 0 ∷ 3 ∷ 7 ∷ 8 ∷ []; offsets = offsets }
-first-table-read-back =
-    rw first-table-written at
-    (read-what-was-written firstLink delays offsets (replicate 15 9) first-table-is-clear (rw file-of-the-first-table (omega arith))
-    (8 ∷ 8 ∷ 8 ∷ 8 ∷ []) (7 ∷ 7 ∷ 7 ∷ []) (omega arith) (omega arith))
+abbrev eights : List ℕ
+eights = 8 ∷ 8 ∷ 8 ∷ 8 ∷ []
 
-pub one-byte-added : readGives (file ++ (0 ∷ [])) [] [] ≡ refuses badFile 13 [] []
-one-byte-added = rw file-of-the-first-table at (bytes-added firstLink delays offsets (first-table-is-clear .0) [] [] 0 [])
+-- whatever the writer answers, and the reader of what it wrote
+module _ (r : PlanWritten) (new : List ℕ) (w : Writes firstLink delays offsets buffer r new) where
+  pub first-table-written : (r ≡ File 13) × (new ≡ file ++ (9 ∷ 9 ∷ []))
+  first-table-written =
+      rw file-of-the-first-table at
+      (writes-its-bytes firstLink delays offsets buffer r new w first-table-is-clear (rw file-of-the-first-table (omega arith)))
 
-pub last-byte-cut : (place : ℕ) × (readGives (take 12 file) [] [] ≡ refuses badFile place [] [])
-last-byte-cut =
+  pub first-table-read-back : (q : PlanRead) (ds os : List ℕ) → Reads (take 13 new) eights eights q ds os
+      → (q ≡ Plan firstLink 3) × (ds ≡ 0 ∷ 3 ∷ 7 ∷ 8 ∷ []) × (os ≡ 0 ∷ 2 ∷ 5 ∷ 8 ∷ [])
+  first-table-read-back =
+      read-what-was-written firstLink delays offsets buffer r new w 13 (first-table-written .0) eights eights (omega arith) (omega arith)
+
+  pub so-it-is-clear : ClearPlan firstLink delays offsets
+  so-it-is-clear = writes-clear-only firstLink delays offsets buffer r new w 13 (first-table-written .0)
+
+  pub only-the-first-table : (k : Link) (ds os old : List ℕ) (n : ℕ) (other : List ℕ) → Writes k ds os old (File n) other
+      → take 13 new ≡ take n other → (firstLink ≡ k) × (delays ≡ ds) × (offsets ≡ os)
+  only-the-first-table k ds os old n other v =
+      one-plan firstLink k delays ds offsets os buffer old 13 n new other (rw (first-table-written .0) at w) v
+
+-- whatever the reader answers on the file, with room for the rows
+module _ (ds os : List ℕ) (w : Reads file eights eights (Plan firstLink 3) ds os) where
+  pub the-file-is-written : AcceptedFile file eights eights firstLink 3 ds os
+  the-file-is-written = accepted-is-written file eights eights are-bytes firstLink 3 ds os w
+
+  pub the-only-file : (bs ds′ os′ : List ℕ) → Bytes bs → Reads bs eights eights (Plan firstLink 3) ds′ os′
+      → take 3 ds ≡ take 3 ds′ → take 3 os ≡ take 3 os′ → file ≡ bs
+  the-only-file bs ds′ os′ h v =
+      one-file file bs eights eights eights eights are-bytes h firstLink 3 ds ds′ os os′ w v
+
+pub one-byte-added : (r : PlanRead) (ds os : List ℕ) → Reads (file ++ (0 ∷ [])) [] [] r ds os → RefusedAt 16 13 r [] ds [] os
+one-byte-added r ds os =
+    rw file-of-the-first-table at (bytes-added firstLink delays offsets (first-table-is-clear .0) [] [] r ds os 0 [])
+
+pub last-byte-cut : (r : PlanRead) (ds os : List ℕ) → Reads (take 12 file) [] [] r ds os → (p : ℕ) × RefusedAt 16 p r [] ds [] os
+last-byte-cut r ds os =
     rw file-of-the-first-table at
-    (bytes-cut firstLink delays offsets (first-table-is-clear .0) [] [] 12 (rw file-of-the-first-table (omega arith)))
+    (bytes-cut firstLink delays offsets (first-table-is-clear .0) [] [] r ds os 12 (rw file-of-the-first-table (omega arith)))
+
+-- "First table, offsets 0 2 4": not clear
+abbrev others : List ℕ
+others = 0 ∷ 2 ∷ 4 ∷ []
+
+abbrev unclear-file : List ℕ
+unclear-file = 0x50 ∷ 0x4D ∷ 0x41 ∷ 0x01 ∷ 0x0A ∷ 0x02 ∷ 0x03 ∷ 0x00 ∷ 0x00 ∷ 0x03 ∷ 0x02 ∷ 0x07 ∷ 0x04 ∷ []
+
+pub not-written : (r : PlanWritten) (new : List ℕ) → Writes firstLink delays others buffer r new → (j : ℕ) × (r ≡ Refused 18 j)
+not-written r new w =
+    let good = collision-is-first firstLink delays others (Collision 0 2 2) collides 0 2 2 refl .0 in
+    let v = not-clear-not-written firstLink delays others buffer r new w good not-clear in
+    (v .1, v .4)
+
+head-read : header unclear-file 4 ≡ got (record { link = firstLink; rows = 3 }) 7
+unfolding header number readNumber groupsRead onto ending outside
+head-read = refl
+
+rows-read : rows unclear-file 10 3 [] [] 7 ≡ got (record { delays = delays; offsets = others }) 13
+unfolding rows row number readNumber groupsRead onto ending outside
+rows-read = refl
+
+with-tag : begins tag unclear-file ≡ true
+unfolding begins
+with-tag = refl
+
+pub not-read : Bytes unclear-file → (r : PlanRead) (ds os : List ℕ) → Reads unclear-file [] [] r ds os → (j : ℕ) × RefusedAt 18 j r [] ds [] os
+not-read b r ds os v =
+    let w = after-the-last-number unclear-file firstLink 3 7 (record { delays = delays; offsets = others }) 13 with-tag head-read rows-read
+    [] [] r ds os v b (omega arith) not-clear in
+    (w .1, w .4)

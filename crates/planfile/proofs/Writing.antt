@@ -10,11 +10,16 @@ use borrow.Author.Tests.{lt-ltb, le-ltb}
 use Rattle.link.specs.Limits.{badLength, maxRows}
 use Rattle.link.specs.Range.{GoodPlan}
 use Rattle.link.specs.declared.Link.{Link}
+use Rattle.ground.specs.Judging.{first}
+use Rattle.checker.specs.Judging.{clearFaults}
+use Rattle.ground.specs.Lent.{onFront}
+use Rattle.ground.specs.Protocol.{gives, keeping}
 use Rattle.ground.specs.declared.Judged.the-variants.{Fine, Fault}
+use Rattle.ground.proofs.Answers.{refused, goes-on}
+use Rattle.ground.proofs.Faults.{fine as no-fault, hit, pass, front-hit, front-pass}
 use Rattle.planfile.specs.Number.{numberBytes}
 use Rattle.planfile.specs.Format.{tag, headerBytes, rowsBytes, planBytes, headerRoom, rowsRoom, Put, RowsFit}
-use Rattle.planfile.specs.Reading.{judgment}
-use Rattle.planfile.specs.Answer.{writes, refusesWrite, onFront, stored, writeGives}
+use Rattle.planfile.specs.Answer.{writes, refusesWrite, stored, writeFaults, writeGives}
 use Rattle.planfile.proofs.Numbers.{length-number, few-groups}
 
 pub rows-fit : (k : Link) (ds os : List ℕ) → GoodPlan k ds os → RowsFit ds os
@@ -27,20 +32,20 @@ rows-fit k ds os g =
     }
 
 module _ (k : Link) (ds os old : List ℕ) where
-  pub write-fault : (n p : ℕ) → judgment k ds os ≡ Fault n p → writeGives k ds os old ≡ record { says = refusesWrite n p; leaves = old }
-  unfolding writeGives
-  write-fault n p e = rw e
+  pub write-fault : (n p : ℕ) → first (clearFaults k ds os) ≡ Fault n p → keeping refusesWrite old n p ≡ writeGives k ds os old
+  unfolding writeGives writeFaults
+  write-fault n p e = refused (keeping refusesWrite old) _ (sym (front-hit (clearFaults k ds os) _ n p e))
 
-  module _ (fine : judgment k ds os ≡ Fine) where
-    pub write-short : length old < length (planBytes k ds os) →
-        writeGives k ds os old ≡ record { says = refusesWrite badLength 0; leaves = old }
-    unfolding writeGives stored
-    write-short h = rw (fine, lt-ltb _ _ h)
+  module _ (fine : first (clearFaults k ds os) ≡ Fine) where
+    pub write-short : length old < length (planBytes k ds os) → keeping refusesWrite old badLength 0 ≡ writeGives k ds os old
+    unfolding writeGives writeFaults
+    write-short h = refused (keeping refusesWrite old) _ (sym (front-pass (clearFaults k ds os) _ _ fine (hit [] _ badLength 0 (lt-ltb _ _ h))))
 
-    pub write-done : length (planBytes k ds os) ≤ length old →
-        writeGives k ds os old ≡ record { says = writes (length (planBytes k ds os)); leaves = onFront (planBytes k ds os) old }
-    unfolding writeGives stored
-    write-done h = rw (fine, le-ltb _ _ h)
+    pub write-done : length (planBytes k ds os) ≤ length old → stored (planBytes k ds os) old ≡ writeGives k ds os old
+    unfolding writeGives writeFaults
+    write-done h =
+        goes-on (keeping refusesWrite old)
+        (sym (front-pass (clearFaults k ds os) _ Fine fine (pass [] _ badLength 0 (le-ltb _ _ h) no-fault))) refl
 
 pub length-header : (k : Link) (n : ℕ) → length (headerBytes k n) ≤ headerRoom
 unfolding headerBytes
@@ -107,3 +112,7 @@ plan-put k ds os rest f₁ f₂ f₃ r₁ r₂ a b c =
 -- the kit's copy of a whole list leaves it on the buffer's front
 pub copied-whole : (xs bs old out : List ℕ) → out ≡ take (length xs) xs ++ drop (length xs) old → xs ≡ bs → out ≡ onFront bs old
 copied-whole xs bs old out e f = e ∙ rw (take-length, f)
+
+-- and the answer says how many
+pub stored-as : {n : ℕ} {out : List ℕ} (bs old : List ℕ) → n ≡ length bs → out ≡ onFront bs old → gives (writes n) out ≡ stored bs old
+stored-as bs old e f = λ i. gives (writes (e i)) (f i)

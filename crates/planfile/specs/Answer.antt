@@ -1,17 +1,20 @@
 -- What the reader and the writer answer, and what they leave in lent memory.
 use mathlib.Core.Path.{_≡_}
 use mathlib.Core.Bool.{cond, _||_}
-use mathlib.Core.List.{List, _++_}
+use mathlib.Core.List.{List, [], _∷_}
 use Prim.Native.Nat.{ℕ, _≤_, _<_}
 use lib.Dec.{ltb}
-use lib.ListN.{length, drop, take}
+use lib.ListN.{length, take}
+use Rattle.ground.specs.Judging.{Cause, when, andThen, first}
+use Rattle.ground.specs.Lent.{onFront}
+use Rattle.ground.specs.Protocol.{Outcome, gives, keeping, unless}
 use Rattle.link.specs.Limits.{maxRows, badLength}
+use Rattle.link.specs.Range.{noLink}
 use Rattle.link.specs.declared.Link.{Link}
-use Rattle.ground.specs.declared.Judged.{Judged}
-use Rattle.ground.specs.declared.Judged.the-variants.{Fine, Fault}
+use Rattle.checker.specs.Judging.{clearFaults}
 use Rattle.planfile.specs.Format.{planBytes}
-use Rattle.planfile.specs.Reading.{Step, got, stopped, Head, Row, Rows, Meaning, plan, refused, means, judgment}
-use Rattle.planfile.specs.Reading.{closing, rest, meaning}
+use Rattle.planfile.specs.FileMeaning.{Step, got, stopped, Head, Row, Rows, Meaning, plan, refused, means}
+use Rattle.planfile.specs.FileMeaning.{closing, rest, meaning}
 use Rattle.planfile.specs.declared.Taken.{Taken}
 use Rattle.planfile.specs.declared.Taken.the-variants.{Value as TakenValue, Refused as TakenRefused}
 use Rattle.planfile.specs.declared.Header.{Header}
@@ -56,44 +59,48 @@ pub record ReadSaid : Type 0 where
   pub verdict : Verdict
   pub number : ℕ
   pub place : ℕ
-  pub period : ℕ
-  pub size : ℕ
+  pub link : Link
   pub rows : ℕ
 
 abbrev pub readsPlan : Link → ℕ → ReadSaid
-readsPlan k n = record { verdict = done; number = 0; place = 0; period = k .period; size = k .size; rows = n }
+readsPlan k n = record { verdict = done; number = 0; place = 0; link = k; rows = n }
 
 abbrev pub refusesRead : ℕ → ℕ → ReadSaid
-refusesRead n p = record { verdict = refusal; number = n; place = p; period = 0; size = 0; rows = 0 }
+refusesRead n p = record { verdict = refusal; number = n; place = p; link = noLink; rows = 0 }
 
 unfoldable pub readSaid : PlanRead → ReadSaid
 readSaid (Plan k n) = readsPlan k n
 readSaid (ReadRefused n p) = refusesRead n p
 
--- the reader's answer, and the two lent lists as it leaves them
-pub record ReadGives : Type 0 where
-  pub says : ReadSaid
+-- the two lent lists
+pub record Lists : Type 0 where
   pub delays : List ℕ
   pub offsets : List ℕ
 
+abbrev pub lists : List ℕ → List ℕ → Lists
+lists ds os = record { delays = ds; offsets = os }
+
+-- the reader's answer, and the two lists as it leaves them
+abbrev pub ReadGives : Type 0
+ReadGives = Outcome ReadSaid Lists
+
 -- a reader that gives g answers r and leaves ds and os in the two lists
 abbrev pub Gives : ReadGives → PlanRead → List ℕ → List ℕ → Type 0
-Gives g r ds os = (readSaid r ≡ g .says) × (ds ≡ g .delays) × (os ≡ g .offsets)
+Gives g r ds os = gives (readSaid r) (lists ds os) ≡ g
 
--- "A lent buffer longer than needed keeps its tail."
-abbrev pub onFront : List ℕ → List ℕ → List ℕ
-onFront xs old = xs ++ drop (length xs) old
-
--- "Every refusal .. leaves all output buffers with the bytes and numbers they had."
 abbrev pub refuses : ℕ → ℕ → List ℕ → List ℕ → ReadGives
-refuses n p oldD oldO = record { says = refusesRead n p; delays = oldD; offsets = oldO }
+refuses n p oldD oldO = keeping refusesRead (lists oldD oldO) n p
+
+-- a plan's rows in the fronts of the lists
+abbrev pub delivers : Link → List ℕ → List ℕ → List ℕ → List ℕ → ReadGives
+delivers k ds os oldD oldO = gives (readsPlan k (length ds)) (lists (onFront ds oldD) (onFront os oldO))
 
 -- "then 11": either list shorter than the rows
 unfoldable pub delivered : Meaning → List ℕ → List ℕ → ReadGives
 delivered (plan k ds os) oldD oldO =
     cond (ltb (length oldD) (length ds) || ltb (length oldO) (length os))
     (refuses badLength 0 oldD oldO)
-    (record { says = readsPlan k (length ds); delays = onFront ds oldD; offsets = onFront os oldO })
+    (delivers k ds os oldD oldO)
 delivered (refused n p) oldD oldO = refuses n p oldD oldO
 
 -- what the reader gives once it has read the last number
@@ -129,21 +136,13 @@ unfoldable pub writtenSaid : PlanWritten → WrittenSaid
 writtenSaid (File n) = writes n
 writtenSaid (WriteRefused n p) = refusesWrite n p
 
-pub record WriteGives : Type 0 where
-  pub says : WrittenSaid
-  pub leaves : List ℕ
+-- "The writer writes clear plans only; it judges 5, 6, 8, 7, then 11 .., 17, 18, and last 11 if the output buffer is too short"
+unfoldable pub writeFaults : Link → List ℕ → List ℕ → ℕ → List Cause
+writeFaults k ds os room = andThen (clearFaults k ds os) (when (ltb room (length (planBytes k ds os))) badLength 0 ∷ [])
 
--- "last 11 if the output buffer is too short"
-unfoldable pub stored : List ℕ → List ℕ → WriteGives
-stored bs old =
-    cond (ltb (length old) (length bs))
-    (record { says = refusesWrite badLength 0; leaves = old })
-    (record { says = writes (length bs); leaves = onFront bs old })
+-- a plan's bytes in the front of the buffer
+abbrev pub stored : List ℕ → List ℕ → Outcome WrittenSaid (List ℕ)
+stored bs old = gives (writes (length bs)) (onFront bs old)
 
-abbrev pub unlessFault : Judged → WriteGives → List ℕ → WriteGives
-unlessFault Fine w old = w
-unlessFault (Fault n p) w old = record { says = refusesWrite n p; leaves = old }
-
--- "The writer writes clear plans only; it judges 5, 6, 8, 7, then 11 .., 17, 18, and last 11"
-unfoldable pub writeGives : Link → List ℕ → List ℕ → List ℕ → WriteGives
-writeGives k ds os old = unlessFault (judgment k ds os) (stored (planBytes k ds os) old) old
+unfoldable pub writeGives : Link → List ℕ → List ℕ → List ℕ → Outcome WrittenSaid (List ℕ)
+writeGives k ds os old = unless (keeping refusesWrite old) (first (writeFaults k ds os (length old))) (stored (planBytes k ds os) old)

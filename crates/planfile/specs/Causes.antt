@@ -1,6 +1,9 @@
 -- "Anything else in form, including bytes cut off or left over, is 16": the refusal number of each cause.
 use Prim.Native.Nat.{ℕ}
-use Rattle.link.specs.Limits.{badFile}
+
+-- "16 plan file form"
+abbrev pub badFile : ℕ
+badFile = 16
 
 abbrev pub wrongTag : ℕ
 wrongTag = badFile

@@ -3,5 +3,5 @@ pub mod Bytes
 pub mod Causes
 pub mod Number
 pub mod Format
-pub mod Reading
+pub mod FileMeaning
 pub mod Answer

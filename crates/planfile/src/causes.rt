@@ -1,5 +1,6 @@
 // The refusal number of each cause that makes a file not of its form.
-use link::limits::BAD_FILE;
+// "16 plan file form"
+const BAD_FILE: u32 = 16;
 
 pub(crate) const WRONG_TAG: u32 = BAD_FILE;
 

@@ -9,6 +9,7 @@ use ground::Judged;
 use link::Link;
 use link::limits::BAD_LENGTH;
 ghost use mathlib.Core.Path.{_≡_};
+ghost use Rattle.ground.specs.Protocol.{gives};
 ghost use Rattle.planfile.specs.Answer.{writtenSaid, writeGives};
 
 // What the bytes from a place on say: a number and how many bytes it takes, or what is wrong with its form.
@@ -72,10 +73,10 @@ const TAG: [u8; 4] = *b"PMA\x01";
 
 // Writes a clear plan into the front of the buffer.
 pub fn write_plan(link: Link, delays: &[u32], offsets: &[u32], buffer: &mut [u8]) -> PlanWritten
-    ensures { λ r. ⌜ writtenSaid r ≡ writeGives link (now (delays .entry)) (now (offsets .entry)) (now (buffer .entry)) .says ⌝ }
-    ensures { λ r. ⌜ now (buffer .exit) ≡ writeGives link (now (delays .entry)) (now (offsets .entry)) (now (buffer .entry)) .leaves ⌝ }
+    ensures { λ r. ⌜ gives (writtenSaid r) (now (buffer .exit))
+        ≡ writeGives link (now (delays .entry)) (now (offsets .entry)) (now (buffer .entry)) ⌝ }
 {
-    match writer::judge(link, delays, offsets) {
+    match checker::judge_clear(link, delays, offsets) {
         Judged::Fault { number, place } => PlanWritten::Refused { number, place },
         Judged::Fine => {
             let mut file = [0u8; ROOM];

@@ -9,7 +9,6 @@ use crate::Taken;
 use crate::causes::LEFT_OVER;
 use crate::causes::WRONG_TAG;
 use crate::groups;
-use crate::writer;
 use ground::Judged;
 use link::Link;
 use link::limits::BAD_DELAY;
@@ -26,25 +25,8 @@ ghost use mathlib.Core.List.{[]};
 ghost use Prim.Native.Nat.{_≤_, _<_};
 ghost use lib.ListN.{length, take};
 ghost use Rattle.planfile.specs.Bytes.{Bytes};
-ghost use Rattle.planfile.specs.Reading.{after, begins as beginsWith, number as numberOf, header, tagged, row, rows as rowsOf};
+ghost use Rattle.planfile.specs.FileMeaning.{after, number as numberOf, header, tagged, row, rows as rowsOf};
 ghost use Rattle.planfile.specs.Answer.{taken, headed, InRange, rowed, rowsed, Gives, closes, restGives};
-
-// Whether the bytes begin with the tag.
-fn begins(tag: &[u8], bytes: &[u8]) -> bool
-    ensures { λ r. ⌜ r ≡ beginsWith (now (tag .entry)) (now (bytes .entry)) ⌝ }
-{
-    let mut i = 0;
-    while i < tag.len() {
-        if i >= bytes.len() {
-            return false;
-        }
-        if bytes[i] != tag[i] {
-            return false;
-        }
-        i += 1;
-    }
-    true
-}
 
 // The number at a place: its form, then its range.
 pub fn take_number(bytes: &[u8], at: usize, low: u32, high: u32, fault: u32) -> Taken
@@ -118,7 +100,7 @@ fn read_numbers(bytes: &[u8], at: usize) -> Header
 pub fn read_header(bytes: &[u8], at: usize) -> Header
     ensures { λ r. ⌜ (headed r ≡ tagged (now (bytes .entry)) at) × Bytes (now (bytes .entry)) ⌝ }
 {
-    if !begins(&TAG, bytes) {
+    if !ground::begins(&TAG, bytes) {
         return Header::Refused {
             number: WRONG_TAG,
             place: 0,
@@ -223,7 +205,7 @@ fn close(
             place: end,
         };
     }
-    match writer::judge(link, ds, os) {
+    match checker::judge_clear(link, ds, os) {
         Judged::Fault { number, place } => PlanRead::Refused { number, place },
         Judged::Fine => {
             if delays.len() < ds.len() {

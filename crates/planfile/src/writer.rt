@@ -1,37 +1,14 @@
 // The writer's steps.
 use crate::groups;
-use checker::Checked;
-use ground::Judged;
 use link::Link;
 use link::limits::MAX_ROWS;
-use link::limits::NOT_CLEAR;
-ghost use mathlib.Core.Path.{_≡_};
 ghost use Prim.Native.Nat.{_+_, _≤_};
 ghost use lib.ListN.{length};
 ghost use Rattle.link.specs.Limits.{maxPeriod, maxRows};
 ghost use Rattle.planfile.specs.Format.{headerBytes, rowsBytes, headerRoom, rowsRoom, Put, RowsFit};
-ghost use Rattle.planfile.specs.Reading.{judgment};
 
 // Four bytes for the tag, and at most four for each of the 3 + 2 * 64 numbers.
 pub(crate) const ROOM: usize = 4 * (1 + 3 + 2 * MAX_ROWS);
-
-// A plan to write or to read: what the checker refuses, and 18 where two rows meet.
-pub(crate) fn judge(link: Link, delays: &[u32], offsets: &[u32]) -> Judged
-    ensures { λ r. ⌜ r ≡ judgment link (now (delays .entry)) (now (offsets .entry)) ⌝ }
-{
-    match checker::check(link, delays, offsets) {
-        Checked::Refused { number, place } => Judged::Fault { number, place },
-        Checked::Collision {
-            earlier: _,
-            later,
-            crossing: _,
-        } => Judged::Fault {
-            number: NOT_CLEAR,
-            place: later,
-        },
-        Checked::Clear => Judged::Fine,
-    }
-}
 
 // Writes period, size and the number of rows.
 pub(crate) fn put_header(link: Link, rows: usize, file: &mut [u8], at: usize) -> usize

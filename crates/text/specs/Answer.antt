@@ -5,6 +5,7 @@ use lib.ListN.{length}
 use Rattle.ground.specs.Judging.{first}
 use Rattle.ground.specs.Lent.{onFront}
 use Rattle.ground.specs.Protocol.{Outcome, gives, keeping, unless}
+use Rattle.link.specs.Range.{noLink}
 use Rattle.link.specs.declared.Link.{Link}
 use Rattle.text.specs.Decimal.{value}
 use Rattle.text.specs.Lines.{line}
@@ -25,9 +26,6 @@ pub record Said : Type 0 where
   pub rows : ℕ
 
 -- "Fields of an answer that don't apply are 0"
-abbrev pub noLink : Link
-noLink = record { period = 0; size = 0 }
-
 abbrev pub tabling : Link → ℕ → Said
 tabling k n = record { verdict = table; number = 0; place = 0; link = k; rows = n }
 

@@ -19,7 +19,7 @@ use Rattle.report.specs.Runs as runs
 use Rattle.planfile.specs.Answer as file
 use Rattle.planfile.specs.Format as format
 use Rattle.planfile.specs.Number as number
-use Rattle.planfile.specs.Reading as reading
+use Rattle.planfile.specs.FileMeaning as reading
 use Rattle.worked.specs.Tables.{table}
 
 pub as-the-page-says : map (λ c. c .computed) table ≡ map (λ c. c .page) table

@@ -41,7 +41,7 @@ use Rattle.walks.proofs.Called.{Callee, spelled}
 use Rattle.walks.proofs.HeldCall.{calls-lent, brings}
 use Rattle.walks.proofs.PlainCall.{calls-plain}
 use Rattle.walks.proofs.Walk.{ends, meets}
-use Rattle.planfile.specs.Reading.{after, number}
+use Rattle.planfile.specs.FileMeaning.{after, number}
 use Rattle.planfile.specs.Answer.{taken}
 use Rattle.planfile.specs.declared.Taken.{Taken}
 use Rattle.planfile.proofs.Taken as S

@@ -46,7 +46,7 @@ use Rattle.walks.proofs.HeldCall.{calls-lent, calls-kept, brings}
 use Rattle.walks.proofs.PlainCall.{calls-plain}
 use Rattle.walks.proofs.Walk.{ends, meets}
 use Rattle.planfile.specs.Bytes.{Bytes as AreBytes}
-use Rattle.planfile.specs.Reading.{after, tagged}
+use Rattle.planfile.specs.FileMeaning.{after, tagged}
 use Rattle.planfile.specs.Answer.{headed, InRange, Gives, restGives}
 use Rattle.planfile.specs.declared.Header.{Header}
 use Rattle.planfile.proofs.Joining.{in-range, as-read}

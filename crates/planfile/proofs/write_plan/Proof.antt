@@ -1,16 +1,18 @@
 -- What the judgment refuses is the answer; else tag, header and rows are put one after the other, and copied where there is room.
-use mathlib.Core.Path.{_≡_, refl, sym, _∙_}
+use mathlib.Core.Path.{_≡_, sym, _∙_}
 use mathlib.Core.List.{List, []}
 use Prim.Native.Nat.{ℕ, _≤_, _<_}
 use native.Mathlib.Omega.{arith}
 use lib.ListN.{length}
 use lib.Seq.{length-take-le}
 use Rattle.ground.specs.declared.Judged.the-variants.{Fine}
+use Rattle.ground.specs.Judging.{first}
+use Rattle.checker.specs.Judging.{clearFaults}
 use Rattle.planfile.specs.Format.{planBytes, Put}
-use Rattle.planfile.specs.Reading.{judgment}
 use Rattle.planfile.specs.Answer.{writtenSaid}
-use Rattle.planfile.proofs.Judgment.{judged-clear}
-use Rattle.planfile.proofs.Writing.{length-header, length-rows, rows-fit, write-fault, write-short, write-done, plan-put, copied-whole}
+use Rattle.checker.proofs.Judging.{fine-clear}
+use Rattle.planfile.proofs.Writing.{length-header, length-rows, rows-fit, write-fault, write-short, write-done, plan-put}
+use Rattle.planfile.proofs.Writing.{copied-whole, stored-as}
 use borrow.Author.Needs.{needs}
 use Rattle.planfile.proofs.write_plan.Statement.{statement}
 use Rattle.planfile.proofs.write_plan.Tie as tie
@@ -37,7 +39,7 @@ fits c =
     let w = h .before .before .before in
     let t = w .before .before .before in
     let u = start c .args in
-    let g = judged-clear _ _ _ (sym (t .before .before .judge .ensures) ∙ t .enum-told .given .1) .0 in
+    let g = fine-clear _ _ _ (sym (t .before .before .judge-clear .ensures) ∙ t .enum-told .given .1) .0 in
     omega (
       arith,
       c .put-rows .ensures .0,
@@ -50,13 +52,14 @@ fits c =
       g .table .rows-high,
     )
 
-fine : (c : tie.After-put-rows) → judgment (start c .args .link) (start c .args .delays .now) (start c .args .offsets .now) ≡ Fine
+fine : (c : tie.After-put-rows)
+    → first (clearFaults (start c .args .link) (start c .args .delays .now) (start c .args .offsets .now)) ≡ Fine
 fine c =
     let t = c .before .before .before .before .before .before .before .before .before in
-    sym (t .before .before .judge .ensures) ∙ t .enum-told .given .1
+    sym (t .before .before .judge-clear .ensures) ∙ t .enum-told .given .1
 
-judge-requires : tie.Need-judge-requires
-judge-requires c κs = search needs
+judge-clear-requires : tie.Need-judge-clear-requires
+judge-clear-requires c κs = search needs
 
 enum-known-number : tie.Need-enum-known-number
 enum-known-number c = search needs
@@ -79,7 +82,7 @@ slice-aggregate-put-header c = search needs
 put-header-requires : tie.Need-put-header-requires
 put-header-requires c κs =
     let t = c .before .before .before .before .before in
-    let g = judged-clear _ _ _ (sym (t .before .before .judge .ensures) ∙ t .enum-told .given .1) .0 in (
+    let g = fine-clear _ _ _ (sym (t .before .before .judge-clear .ensures) ∙ t .enum-told .given .1) .0 in (
       omega (arith, c .before .before .copy .kept .1 .0),
       g .table .period-high,
       omega (arith, g .table .span-high, g .table .period-high),
@@ -95,7 +98,7 @@ put-rows-requires c κs =
     let w = h .before .before .before in
     let t = w .before .before .before in
     let u = t .before .before .before .before .before .before .args in
-    let g = judged-clear _ _ _ (sym (t .before .before .judge .ensures) ∙ t .enum-told .given .1) .0 in (
+    let g = fine-clear _ _ _ (sym (t .before .before .judge-clear .ensures) ∙ t .enum-told .given .1) .0 in (
       rows-fit _ _ _ g,
       omega (
         arith,
@@ -111,7 +114,7 @@ unfolding writtenSaid
 returns c =
     let p = c .before .before in
     let short : length (start p .args .buffer .now) < length (planOf p) = omega (arith, long p) in
-    rw (write-short _ _ _ _ (fine p) short) (refl, refl)
+    write-short _ _ _ _ (fine p) short
 
 array-share-prefix-file : tie.Need-array-share-prefix-file
 array-share-prefix-file c = fits (c .before .before)
@@ -126,7 +129,7 @@ copy-requires-2 c κs =
 
 returns-2 : tie.Need-returns-2
 unfolding writtenSaid
-returns-2 c = rw (write-fault _ _ _ _ _ _ (sym (c .before .before .before .judge .ensures) ∙ c .before .number .given .1)) (refl, refl)
+returns-2 c = write-fault _ _ _ _ _ _ (sym (c .before .before .before .judge-clear .ensures) ∙ c .before .number .given .1)
 
 same-length : tie.Need-same-length
 same-length c = search needs
@@ -136,13 +139,14 @@ unfolding writtenSaid
 returns-3 c =
     let p = c .before .before .before .before .before .before .before in
     let room : length (planOf p) ≤ length (start p .args .buffer .now) = omega (arith, long p) in
-    rw (write-done _ _ _ _ (fine p) room, long p) (refl, copied-whole _ _ _ _ (c .before .before .copy2 .ensures .1) (put p .1))
+    let out = copied-whole _ _ _ _ (c .before .before .copy2 .ensures .1) (put p .1) in
+    stored-as (planOf p) (start p .args .buffer .now) (long p) out ∙ write-done _ _ _ _ (fine p) room
 
 pub write-plan-spec : {M : Type 1} → statement M
 write-plan-spec =
     tie.close
     (tie.spec
-    judge-requires
+    judge-clear-requires
     enum-known-number
     enum-told
     slice-aggregate-copy

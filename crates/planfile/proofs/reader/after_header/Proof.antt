@@ -2,7 +2,7 @@
 use mathlib.Core.Path.{sym, ap}
 use Rattle.planfile.specs.Answer.{headed}
 use Rattle.planfile.specs.declared.Header.{Header}
-use Rattle.planfile.specs.Reading.{after}
+use Rattle.planfile.specs.FileMeaning.{after}
 use borrow.Author.Needs.{needs}
 use Rattle.planfile.proofs.reader.after_header.Statement.{statement}
 use Rattle.planfile.proofs.reader.after_header.Tie as tie

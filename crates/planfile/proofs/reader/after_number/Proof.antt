@@ -2,7 +2,7 @@
 use mathlib.Core.Path.{sym, ap}
 use Rattle.planfile.specs.Answer.{taken}
 use Rattle.planfile.specs.declared.Taken.{Taken}
-use Rattle.planfile.specs.Reading.{after}
+use Rattle.planfile.specs.FileMeaning.{after}
 use borrow.Author.Needs.{needs}
 use Rattle.planfile.proofs.reader.after_number.Statement.{statement}
 use Rattle.planfile.proofs.reader.after_number.Tie as tie

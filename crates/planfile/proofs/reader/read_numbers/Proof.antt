@@ -1,6 +1,6 @@
 -- Three numbers, one after the other; a refusal is passed on.
 use mathlib.Core.Path.{sym, ap, _∙_}
-use Rattle.planfile.specs.Reading.{header}
+use Rattle.planfile.specs.FileMeaning.{header}
 use Rattle.planfile.specs.Answer.{taken, headed}
 use borrow.Author.Needs.{needs}
 use Rattle.planfile.proofs.reader.read_numbers.Statement.{statement}

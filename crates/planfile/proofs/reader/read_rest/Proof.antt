@@ -1,5 +1,5 @@
 -- A header that was refused is the answer; else the rows, then the closing; what one of them refuses is the answer.
-use mathlib.Core.Path.{refl, sym, subst}
+use mathlib.Core.Path.{sym, subst}
 use Prim.Native.Nat.{_≤_, _<_}
 use native.Mathlib.Omega.{arith}
 use lib.ListN.{length}
@@ -61,7 +61,7 @@ close-requires c κs = search needs
 
 returns : tie.Need-returns
 unfolding readSaid
-returns c = rw (head-refused _ _ _ _ _ _ _ (c .before .head .given .1)) (refl, refl, refl)
+returns c = rw (head-refused _ _ _ _ _ _ _ (c .before .head .given .1))
 
 returns-2 : tie.Need-returns-2
 unfolding readSaid
@@ -70,7 +70,6 @@ returns-2 c =
     let h = r .before .before .before .before in
     rw (bad-rows _ _ _ _ _ _ _ _ (h .head2 .given .1) _ _
     (rows-refused _ _ _ _ (r .read-rows .ensures) _ _ (c .before .number .given .1)))
-    (refl, refl, refl)
 
 same-length : tie.Need-same-length
 same-length c = search needs

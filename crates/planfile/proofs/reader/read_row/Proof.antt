@@ -1,6 +1,6 @@
 -- Two numbers, one after the other; a refusal is passed on.
 use mathlib.Core.Path.{sym, ap, _∙_}
-use Rattle.planfile.specs.Reading.{row}
+use Rattle.planfile.specs.FileMeaning.{row}
 use Rattle.planfile.specs.Answer.{taken, rowed}
 use borrow.Author.Needs.{needs}
 use Rattle.planfile.proofs.reader.read_row.Statement.{statement}

@@ -1,15 +1,15 @@
 -- What the bytes of a file mean: step by step from the first byte, "the first fault deciding".
-use mathlib.Core.Bool.{Bool, true, false, cond, _&&_}
+use mathlib.Core.Bool.{cond}
 use mathlib.Core.List.{List, [], _∷_, _++_}
 use Prim.Native.Nat.{ℕ, zero, suc, _+_, _-_}
-use lib.Dec.{ltb, eqb}
+use lib.Dec.{ltb}
 use lib.ListN.{length, drop}
-use Rattle.link.specs.Limits.{maxPeriod, maxDelay, maxRows, badPeriod, badSize, badDelay, badRows, badOffset, notClear}
-use Rattle.ground.specs.Judging.{outside}
+use Rattle.ground.specs.Judging.{first, outside}
+use Rattle.ground.specs.Protocol.{unless}
+use Rattle.ground.specs.Words.{begins}
+use Rattle.link.specs.Limits.{maxPeriod, maxDelay, maxRows, badPeriod, badSize, badDelay, badRows, badOffset}
 use Rattle.link.specs.declared.Link.{Link}
-use Rattle.ground.specs.declared.Judged.{Judged}
-use Rattle.ground.specs.declared.Judged.the-variants.{Fine, Fault}
-use Rattle.checker.specs.Answer.{Verdict, clear, collision, refusal, Said, answer}
+use Rattle.checker.specs.Judging.{clearFaults}
 use Rattle.planfile.specs.Causes.{wrongTag, leftOver}
 use Rattle.planfile.specs.Number.{readNumber, formFault}
 use Rattle.planfile.specs.Format.{tag}
@@ -41,12 +41,6 @@ ranged Needless at lo hi fault = stopped (formFault Needless) at
 unfoldable pub number : List ℕ → ℕ → ℕ → ℕ → ℕ → Step ℕ
 number bs at lo hi fault = ranged (readNumber (drop at bs)) at lo hi fault
 
--- "50 4D 41 01": the bytes begin with the tag
-unfoldable pub begins : List ℕ → List ℕ → Bool
-begins [] bs = true
-begins (t ∷ ts) [] = false
-begins (t ∷ ts) (b ∷ bs) = eqb b t && begins ts bs
-
 pub record Head : Type 0 where
   pub link : Link
   pub rows : ℕ
@@ -59,7 +53,7 @@ header bs at =
     passing (number bs at₂ 1 maxRows badRows) (λ n at₃.
     got (record { link = record { period = p; size = t }; rows = n }) at₃)))
 
--- the tag, then the header at a place
+-- "50 4D 41 01": the tag, then the header at a place
 abbrev pub tagged : List ℕ → ℕ → Step Head
 tagged bs at = cond (begins tag bs) (header bs at) (stopped wrongTag 0)
 
@@ -93,22 +87,9 @@ abbrev pub means : {A : Type 0} → Step A → (A → ℕ → Meaning) → Meani
 means (got a next) f = f a next
 means (stopped n p) f = refused n p
 
-abbrev pub unless : Judged → Meaning → Meaning
-unless Fine m = m
-unless (Fault n p) m = refused n p
-
--- "18 plan to write, read or report on isn't clear; the row is that of the collision the checker names"
-abbrev pub verdictOf : Verdict → Said → Judged
-verdictOf clear s = Fine
-verdictOf collision s = Fault notClear (s .later)
-verdictOf refusal s = Fault (s .number) (s .place)
-
-unfoldable pub judgment : Link → List ℕ → List ℕ → Judged
-judgment k ds os = verdictOf (answer k ds os .verdict) (answer k ds os)
-
 -- "After the last number: 16 for bytes left over, then 18"
 unfoldable pub closing : List ℕ → Link → List ℕ → List ℕ → ℕ → Meaning
-closing bs k ds os at = cond (ltb at (length bs)) (refused leftOver at) (unless (judgment k ds os) (plan k ds os))
+closing bs k ds os at = cond (ltb at (length bs)) (refused leftOver at) (unless refused (first (clearFaults k ds os)) (plan k ds os))
 
 -- after the header h: the rows from a place on, then the closing
 abbrev pub rest : List ℕ → Head → ℕ → Meaning
