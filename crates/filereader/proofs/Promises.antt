@@ -2,9 +2,10 @@
 use mathlib.Core.Path.{_≡_, refl, sym, ap, _∙_}
 use mathlib.Core.List.{[], _∷_}
 use Prim.Native.Nat.{ℕ}
+use denote.Ref.{now}
 use Rattle.link.specs.Limits.{maxPeriod, badPeriod}
 use Rattle.ground.specs.Judging.{outside}
-use Rattle.ground.proofs.Answers as unique
+use Rattle.ground.proofs.Answers.{no-second}
 use Rattle.planfile.specs.Number.{readNumber, groupsRead, onto, ending}
 use Rattle.planfile.specs.FileMeaning.{Step, got, stopped, after, number}
 use Rattle.planfile.specs.Answer.{taken}
@@ -27,12 +28,20 @@ taken-again (Refused n p) = refl
 pub no-second-number : (d : FileReader) (low high fault : ℕ) (q q′ : NumberRead) → ReadsNumber d low high fault q →
     ReadsNumber d low high fault q′ → q ≡ q′
 no-second-number d low high fault q q′ w w′ =
-    let same = unique.no-second taken untaken taken-again (w .0) (w′ .0) in
+    let same = no-second taken untaken taken-again (w .0) (w′ .0) in
     let bytes = w .1 ∙ sym (w′ .1) in
     let place = w .2 ∙ ap (λ (t : Taken). after (d .at) (taken t)) same ∙ sym (w′ .2) in
     λ i. record { reader = record { bytes = bytes i; at = place i }; taken = same i }
 
 -- "300 is AC 02": as a period, and the reader moved past its two bytes
-pub worked-300 : number (0xAC ∷ 0x02 ∷ 0x01 ∷ []) 0 1 maxPeriod badPeriod ≡ got 300 2
+three-hundred : number (0xAC ∷ 0x02 ∷ 0x01 ∷ []) 0 1 maxPeriod badPeriod ≡ got 300 2
 unfolding number readNumber groupsRead onto ending outside
-worked-300 = refl
+three-hundred = refl
+
+-- whatever is read there, it is 300, and the reader stands behind it
+pub worked-300 : (d : FileReader) (q : NumberRead) → now (d .bytes) ≡ 0xAC ∷ 0x02 ∷ 0x01 ∷ [] → d .at ≡ 0
+    → ReadsNumber d 1 maxPeriod badPeriod q → (q .taken ≡ Value 300 2) × (q .reader .at ≡ 2)
+unfolding taken
+worked-300 d q b e w =
+    let read : taken (q .taken) ≡ got 300 2 = w .0 ∙ rw (b, e) three-hundred in
+    (no-second taken untaken taken-again read refl, w .2 ∙ ap (after (d .at)) read)

@@ -4,8 +4,9 @@ use planfile::Taken;
 use planfile::reader;
 ghost use mathlib.Core.Path.{_≡_};
 ghost use lib.ListN.{length};
+ghost use Rattle.ground.specs.Protocol.{gives};
 ghost use Rattle.planfile.specs.Format.{tag};
-ghost use Rattle.planfile.specs.Answer.{readSaid, readGives, IsFileOf};
+ghost use Rattle.planfile.specs.Answer.{lists, readSaid, readGives, IsFileOf};
 ghost use Rattle.filereader.specs.Held.{ReadsNumber};
 
 pub struct FileReader<'a> {
@@ -48,9 +49,8 @@ pub fn read_number<'a>(r: FileReader<'a>, low: u32, high: u32, fault: u32) -> Nu
 
 // Reads a plan into the fronts of the two lists: the header at the reader's place, and the rest from where it stands after that.
 pub fn read_plan(bytes: &[u8], delays: &mut [u32], offsets: &mut [u32]) -> PlanRead
-    ensures { λ r. ⌜ readSaid r ≡ readGives (now (bytes .entry)) (now (delays .entry)) (now (offsets .entry)) .says ⌝ }
-    ensures { λ r. ⌜ now (delays .exit) ≡ readGives (now (bytes .entry)) (now (delays .entry)) (now (offsets .entry)) .delays ⌝ }
-    ensures { λ r. ⌜ now (offsets .exit) ≡ readGives (now (bytes .entry)) (now (delays .entry)) (now (offsets .entry)) .offsets ⌝ }
+    ensures { λ r. ⌜ gives (readSaid r) (lists (now (delays .exit)) (now (offsets .exit)))
+        ≡ readGives (now (bytes .entry)) (now (delays .entry)) (now (offsets .entry)) ⌝ }
     ensures { λ r. ⌜ IsFileOf r (now (bytes .entry)) (now (delays .exit)) (now (offsets .exit)) ⌝ }
 {
     let start = open(bytes);

@@ -195,7 +195,7 @@ module _ {M : Type 1} (𝓤 : URA M) (H : Heap 𝓤) (A : Atoms 𝓤) (W : Given
         move ! (2 ∷ []) $ fsplit ! $ drop ! $ fsplit ! $ drop ! $ keep ! (2 ∷ 0 ∷ 1 ∷ []) $
         let read = as-read (s .now) (ds .now) (os .now) h m r _ _ (eh .0) em (eh .1) er in
         by ! (ends 𝓤 H A W f.ended (f.clauses 𝓤 H A mem run) y w₃ r (tt, ws .1 .1 .1) (id⊢ 𝓤 _)
-        (and 𝓤 (one 𝓤 (read .0 .0)) (and 𝓤 (one 𝓤 (read .0 .1)) (and 𝓤 (one 𝓤 (read .0 .2)) (one 𝓤 (read .1)))))))))))))))
+        (and 𝓤 (one 𝓤 (read .0)) (one 𝓤 (read .1)))))))))))))
 
 pub read-plan-spec : {M : Type 1} → stated.statement M
 unfolding code.routine tablesOf
