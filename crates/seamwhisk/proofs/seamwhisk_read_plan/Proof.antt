@@ -1,6 +1,7 @@
 -- Each arm of the answer has its numbers; the lists are as the reader left them.
 use Rattle.planfile.specs.Answer.{readSaid}
-use Rattle.seamwhisk.proofs.Arms.{filed}
+use Rattle.seamwhisk.specs.Numbers.{fileAs}
+use Rattle.seamwhisk.proofs.Arms.{arm}
 use borrow.Author.Needs.{needs}
 use Rattle.seamwhisk.proofs.seamwhisk_read_plan.Statement.{statement}
 use Rattle.seamwhisk.proofs.seamwhisk_read_plan.Tie as tie
@@ -39,7 +40,7 @@ returns : tie.Need-returns
 unfolding readSaid
 returns c =
     let told = c .before .before .before .before .before .before .before .before .before .before .before .read-plan .ensures in
-    filed _ _ _ _ _ _ (told .0) (told .1 .0) (told .1 .1 .0) (c .before .before .before .before .before .link .given .1) (c .five .ensures)
+    arm fileAs readSaid _ (told .0) (c .before .before .before .before .before .link .given .1) (c .five .ensures)
 
 same-length-3 : tie.Need-same-length-3
 same-length-3 c = search needs
@@ -51,7 +52,7 @@ returns-2 : tie.Need-returns-2
 unfolding readSaid
 returns-2 c =
     let told = c .before .before .before .before .before .before .before .before .before .read-plan .ensures in
-    filed _ _ _ _ _ _ (told .0) (told .1 .0) (told .1 .1 .0) (c .before .before .before .number .given .1) (c .five2 .ensures)
+    arm fileAs readSaid _ (told .0) (c .before .before .before .number .given .1) (c .five2 .ensures)
 
 pub seamwhisk-read-plan-spec : {M : Type 1} → statement M
 seamwhisk-read-plan-spec =

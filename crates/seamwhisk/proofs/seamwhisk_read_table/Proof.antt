@@ -9,8 +9,8 @@ use Rattle.seamwhisk.proofs.seamwhisk_read_table.Tie as tie
 read-table-requires : tie.Need-read-table-requires
 read-table-requires c κs = search needs
 
-enum-known-period : tie.Need-enum-known-period
-enum-known-period c = search needs
+enum-known-link : tie.Need-enum-known-link
+enum-known-link c = search needs
 
 cast-five : tie.Need-cast-five
 cast-five c = search needs
@@ -36,9 +36,9 @@ same-length c = search needs
 returns : tie.Need-returns
 unfolding said
 returns c =
-    let at-read-table = c .before .before .before .before .before .before .before .read-table in
-    let at-period = c .before .before .before .period in
-    arm readAs said _ (at-read-table .ensures) (at-period .given .1) (c .five .ensures)
+    let at-link = c .before .before .before .before .before .link in
+    let at-read-table = c .before .before .before .before .before .before .before .before .before .read-table in
+    arm readAs said _ (at-read-table .ensures) (at-link .given .1) (c .five .ensures)
 
 same-length-2 : tie.Need-same-length-2
 same-length-2 c = search needs
@@ -55,7 +55,7 @@ seamwhisk-read-table-spec =
     tie.close
     (tie.spec
     read-table-requires
-    enum-known-period
+    enum-known-link
     cast-five
     cast-five-2
     five-requires
