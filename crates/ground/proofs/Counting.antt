@@ -20,11 +20,11 @@ same-up f x (suc y) l h =
 module _ (q : ℕ → Bool) where
   pub count-in : (n : ℕ) → q n ≡ true → count q (suc n) ≡ suc (count q n)
   unfolding count
-  count-in n e = rw e
+  count-in n e = rw e (omega arith)
 
   pub count-out : (n : ℕ) → q n ≡ false → count q (suc n) ≡ count q n
   unfolding count
-  count-out n e = rw e
+  count-out n e = rw e (omega arith)
 
   pub count-gap : (x y : ℕ) → x ≤ y → ((s : ℕ) → x ≤ s → s < y → q s ≡ false) → count q y ≡ count q x
   count-gap x y l h = same-up (count q) x y l (λ s a b. count-out s (h s a b))
@@ -105,11 +105,7 @@ count-less q r j (suc n) l e f h = ⊎-elim (λ m. before m (count-less q r j n 
 -- counted from the front
 pub count-front : (q : ℕ → Bool) (n : ℕ) → count q (suc n) ≡ cond (q 0) 1 0 + count (λ i. q (suc i)) n
 unfolding count
-count-front q zero = go (q 0)
-  where
-    go : (b : Bool) → cond b 1 0 ≡ cond b 1 0 + 0
-    go true = refl
-    go false = refl
+count-front q zero = refl
 count-front q (suc n) =
     ⊎-elim (λ e. omega (arith, count-in q (suc n) e, count-in (λ i. q (suc i)) n e, count-front q n))
     (λ e. omega (arith, count-out q (suc n) e, count-out (λ i. q (suc i)) n e, count-front q n)) (true-or-false (q (suc n)))
@@ -118,13 +114,13 @@ count-front q (suc n) =
 pub count-in-none : {A : Type 0} (f : A → Bool) (xs : List A) → ((x : A) → List·Memᴰ x xs → f x ≡ false) → countIn f xs ≡ 0
 unfolding countIn
 count-in-none f [] h = refl
-count-in-none f (x ∷ xs) h = rw (h x (List·Memᴰ·head refl)) (count-in-none f xs (λ y m. h y (List·Memᴰ·tail m)))
+count-in-none f (x ∷ xs) h = rw (h x (List·Memᴰ·head refl)) (omega (arith, count-in-none f xs (λ y m. h y (List·Memᴰ·tail m))))
 
 pub count-in-low : {A : Type 0} (f : A → Bool) (xs : List A) → countIn f xs ≤ length xs
 unfolding countIn
 count-in-low f [] = omega arith
 count-in-low f (x ∷ xs) = go (f x) (count-in-low f xs)
   where
-    go : (b : Bool) → countIn f xs ≤ length xs → cond b (suc (countIn f xs)) (countIn f xs) ≤ suc (length xs)
+    go : (b : Bool) → countIn f xs ≤ length xs → cond b 1 0 + countIn f xs ≤ suc (length xs)
     go true h = omega arith
     go false h = omega arith

@@ -87,9 +87,9 @@ module _ {A : Type 0} where
   length-from f q w h (suc m) =
       ap length (from-last f m) ∙ length-append (from f 0 m) (f m) ∙ rw (length-from f q w h m, h m) (go (q m))
     where
-      go : (b : Bool) → w * count q m + cond b w 0 ≡ w * cond b (suc (count q m)) (count q m)
-      go true = sym (mul-suc w (count q m))
-      go false = omega arith
+      go : (b : Bool) → w * count q m + cond b w 0 ≡ w * (cond b 1 0 + count q m)
+      go true = rw (add-comm 1 (count q m), add-one) (sym (mul-suc w (count q m)))
+      go false = let e : 0 + count q m ≡ count q m = omega arith in rw e (omega arith)
 
 module _ {A : Type 0} (f : ℕ → List A) where
   pub in-from : (a m i : ℕ) (x : A) → a ≤ i → i < a + m → List·Memᴰ x (f i) → List·Memᴰ x (from f a m)

@@ -1,13 +1,14 @@
 -- What a quick planner's answer says of the exact planner's: its plan means that "none" is never said, and its 13 means nothing.
 -- Assumes nothing.
 use mathlib.Core.Path.{_≡_, refl}
-use mathlib.Core.List.{List}
+use mathlib.Core.List.{List, [], _∷_}
 use Prim.Native.Nat.{ℕ, _/_, _<_}
 use native.Mathlib.Omega.{arith}
 use lib.ListN.{length, getD}
 use Rattle.link.specs.Rows.{spanOf}
 use Rattle.link.specs.declared.Link.{Link}
-use Rattle.quick.specs.Answer.{said, gives, quick}
+use Rattle.ground.specs.Protocol.{gives}
+use Rattle.quick.specs.Answer.{said, quick, firstFit, metaOffset}
 use Rattle.quick.specs.Right.{GivenPlan}
 use Rattle.quick.specs.Ways.{Ways}
 use Rattle.quick.specs.declared.Planned.the-variants.{Plan}
@@ -18,7 +19,8 @@ use Rattle.search.specs.Answer.{Answers, ClearChoice}
 use Rattle.search.specs.declared.Answer.the-variants.{None}
 use Rattle.search.proofs.Promises.{clear-plan-never-none}
 
-module _ (k : Link) (ds old : List ℕ) (step count : ℕ) (new : List ℕ) (g : GivenPlan k ds old step count new) (w : Ways (k .period) (spanOf k) step count) where
+module _ (k : Link) (ds old : List ℕ) (step count : ℕ) (new : List ℕ) (g : GivenPlan k ds old step count new)
+    (w : Ways (k .period) (spanOf k) step count) where
   choice : ClearChoice k ds (g .offsets)
   choice = record { as-many = g .right .as-many; inside = inside; clear = g .clear }
     where
@@ -34,11 +36,26 @@ module _ (k : Link) (ds old new : List ℕ) where
   -- where First Fit has a plan the exact planner never says "none", at any budget; and so for Meta-Offset
   pub first-fit-never-none : gives (said Plan) new ≡ quick k ds old 1 (k .period) → (budget : ℕ) (list : List ℕ) (t : ℕ) (left : List ℕ)
       → Answers k ds budget list (None t) left → ⊥
-  first-fit-never-none e = let g = plan-is-right k ds old 1 (k .period) Plan new e refl in never-none k ds old 1 (k .period) new g
+  first-fit-never-none e = let g = plan-is-right k ds old 1 (k .period) Plan new e .0 refl in never-none k ds old 1 (k .period) new g
       (each-offset k ds (g .table))
 
   pub meta-offset-never-none : gives (said Plan) new ≡ quick k ds old (spanOf k) (k .period / spanOf k)
       → (budget : ℕ) (list : List ℕ) (t : ℕ) (left : List ℕ) → Answers k ds budget list (None t) left → ⊥
   meta-offset-never-none e =
-      let g = plan-is-right k ds old (spanOf k) (k .period / spanOf k) Plan new e refl in
+      let g = plan-is-right k ds old (spanOf k) (k .period / spanOf k) Plan new e .0 refl in
       never-none k ds old (spanOf k) (k .period / spanOf k) new g (multiples k ds (g .table))
+
+-- on document 01's first table: First Fit has a plan, so "none" is never said of it, at any budget; and so for Meta-Offset
+module _ (new : List ℕ) (budget : ℕ) (list : List ℕ) (t : ℕ) (left : List ℕ) where
+  abbrev first-link : Link
+  first-link = record { period = 10; size = 2 }
+
+  abbrev delays : List ℕ
+  delays = 0 ∷ 3 ∷ 7 ∷ []
+
+  pub first-table : gives (said Plan) new ≡ firstFit first-link delays (7 ∷ 7 ∷ 7 ∷ []) → Answers first-link delays budget list (None t) left → ⊥
+  first-table e = first-fit-never-none first-link delays (7 ∷ 7 ∷ 7 ∷ []) new e budget list t left
+
+  pub first-table-multiples : gives (said Plan) new ≡ metaOffset first-link delays (7 ∷ 7 ∷ 7 ∷ [])
+      → Answers first-link delays budget list (None t) left → ⊥
+  first-table-multiples e = meta-offset-never-none first-link delays (7 ∷ 7 ∷ 7 ∷ []) new e budget list t left
