@@ -16,7 +16,7 @@ use Rattle.ground.specs.declared.Judged.the-variants.{Fine, Fault}
 use Rattle.ground.proofs.Bools.{lt-or-ge}
 use Rattle.ground.proofs.Faults.{hit, above, first-append, orElse}
 use Rattle.checker.specs.Answer.{Said, clearly, unless, answer}
-use Rattle.records.specs.Lists.{room, toRead}
+use Rattle.records.specs.Series.{room, toRead}
 
 -- what is answered of too many rows
 tooMany : Link → Said

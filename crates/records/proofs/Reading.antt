@@ -18,7 +18,7 @@ use Rattle.link.specs.declared.Link.{Link}
 use Rattle.ground.proofs.Bools.{lt-or-ge}
 use Rattle.checker.specs.Answer.{answer}
 use Rattle.records.specs.Columns.{delaysOf, offsetsOf}
-use Rattle.records.specs.Lists.{room, toRead, stored}
+use Rattle.records.specs.Series.{room, toRead, stored}
 use Rattle.records.specs.declared.Record.{Record}
 use Rattle.records.specs.declared.Lists.{Lists}
 use Rattle.records.proofs.Lists as T

@@ -7,7 +7,7 @@ ghost use Prim.Native.Nat.{_<_, _≤_};
 ghost use lib.ListN.{take};
 ghost use Rattle.checker.specs.Answer.{said, answer};
 ghost use Rattle.records.specs.Columns.{delaysOf, offsetsOf};
-ghost use Rattle.records.specs.Lists.{room, toRead, stored};
+ghost use Rattle.records.specs.Series.{room, toRead, stored};
 
 #[repr(C)]
 pub struct Record {

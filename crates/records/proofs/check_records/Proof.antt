@@ -57,13 +57,13 @@ use Rattle.checker.specs.declared.Checked.{Checked}
 use Rattle.checker.proofs.Checked as Ch
 use Rattle.checker.proofs.Checked.Laws as Ch′
 use Rattle.records.specs.Columns.{delaysOf, offsetsOf}
-use Rattle.records.specs.Lists.{toRead}
+use Rattle.records.specs.Series.{toRead}
 use Rattle.records.specs.declared.Record.{Record}
 use Rattle.records.specs.declared.Lists.{Lists}
 use Rattle.records.proofs.Record as R
 use Rattle.records.proofs.Record.Laws as R′
 use Rattle.records.proofs.Lists as T
-use Rattle.records.proofs.Lists.Laws as T′
+use Rattle.records.proofs.Series.Laws as T′
 use Rattle.records.proofs.Reading.{blank, Turn, Nearer, Nearer-wf, inside, small, fits, next-fits, scaled}
 use Rattle.records.proofs.Reading.{first-turn, next-turn, nearer, read-fits, read-low, all-read}
 use Rattle.records.proofs.Whole.{local, sets, gets}

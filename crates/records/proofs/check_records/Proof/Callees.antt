@@ -31,13 +31,13 @@ use Rattle.link.proofs.Link.Laws as Lk′
 use Rattle.checker.specs.Answer.{said, answer}
 use Rattle.checker.specs.declared.Checked.{Checked}
 use Rattle.checker.proofs.Checked as Ch
-use Rattle.records.specs.Lists.{room, toRead, stored}
+use Rattle.records.specs.Series.{room, toRead, stored}
 use Rattle.records.specs.declared.Record.{Record}
 use Rattle.records.specs.declared.Lists.{Lists}
 use Rattle.records.proofs.Record as R
 use Rattle.records.proofs.Record.Laws as R′
 use Rattle.records.proofs.Lists as T
-use Rattle.records.proofs.Lists.Laws as T′
+use Rattle.records.proofs.Series.Laws as T′
 use Rattle.records.proofs.PlainCall.{Callee, calls-plain}
 use Rattle.records.proofs.to_read as to-read
 use Rattle.records.proofs.to_read.Symbol as to-read-def

@@ -14,7 +14,7 @@ use Rattle.link.proofs.Link.Laws as Lk′
 use Rattle.checker.proofs.Checked.Laws as Ch′
 use Rattle.records.proofs.Record as R
 use Rattle.records.proofs.Record.Laws as R′
-use Rattle.records.proofs.Lists.Laws as T′
+use Rattle.records.proofs.Series.Laws as T′
 
 abbrev pub word : Ty
 word = tyInt w64
