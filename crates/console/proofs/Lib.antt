@@ -1,5 +1,4 @@
 -- Laws that belong to no one function.
-pub mod Adding
 pub mod Spelling
 pub mod Lines
 pub mod Showing

@@ -9,9 +9,8 @@ use lib.Dec.{ltb}
 use lib.ListN.{length, drop, set, length-set, length-append}
 use lib.Seq.{drop-cons, getD-set-same, drop-set-lt}
 use borrow.Author.Tests.{lt-ltb, le-ltb}
-use Rattle.text.specs.Bytes.{newline}
 use Rattle.text.specs.Writing.{digitsIn}
-use Rattle.console.specs.Printed.{maxDigits, number, numberLine}
+use Rattle.console.specs.Printed.{maxDigits, number}
 
 -- `from` digits of n are still to be spelt, those of rest; the others stand in ds behind them
 pub record Spelling (n : ℕ) (ds : List ℕ) (from rest : ℕ) : Type 0 where
@@ -37,7 +36,10 @@ module _ (n : ℕ) (ds : List ℕ) (k rest : ℕ) (s : Spelling n ds (suc k) res
   written : drop k (set ds k (48 + rest % 10)) ≡ (48 + rest % 10) ∷ drop (suc k) ds
   written =
       drop-cons (set ds k (48 + rest % 10)) k 0 (omega (arith, length-set ds k (48 + rest % 10), s .size, s .high))
-      ∙ rw (getD-set-same ds k (48 + rest % 10) 0 (omega (arith, s .size, s .high)), drop-set-lt (suc k) ds k (48 + rest % 10) (omega arith))
+      ∙ rw (
+        getD-set-same ds k (48 + rest % 10) 0 (omega (arith, s .size, s .high)),
+        drop-set-lt (suc k) ds k (48 + rest % 10) (omega arith),
+      )
 
   pub ends : rest < 10 → drop k (set ds k (48 + rest % 10)) ≡ number n
   ends h = written ∙ rw (mod-eq-of-lt h) (sym (s .digits ∙ rw (one-digit k rest h)))
@@ -73,6 +75,3 @@ digits-short (suc k) n = go (ltb n 10) (digits-short k (n / 10))
 
 pub number-short : (n : ℕ) → length (number n) ≤ maxDigits
 number-short n = digits-short maxDigits n
-
-pub line-short : (n : ℕ) → length (numberLine n) ≤ maxDigits + 1
-line-short n = rw (length-append (number n) (newline ∷ [])) (omega (arith, number-short n))

@@ -2,7 +2,9 @@
 use mathlib.Core.Path.{_≡_, refl}
 use mathlib.Core.List.{List, [], _∷_}
 use Prim.Native.Nat.{ℕ}
+use Rattle.ground.specs.Count.{countIn}
 use Rattle.ground.specs.Least.{oneMore, least}
+use Rattle.ground.specs.Series.{from}
 use Rattle.ground.specs.Judging.{first, outside, andThen}
 use Rattle.search.specs.Refusal.{exactFaults}
 use Rattle.link.specs.Refusal.{linkFaults, rowFaults, roomFaults}
@@ -13,11 +15,12 @@ use Rattle.text.specs.Decimal as decimal
 use Rattle.text.specs.Faults as faults
 use Rattle.text.specs.Lines as lines
 use Rattle.text.specs.Reading as reading
+use Rattle.text.specs.Writing.{digitsIn}
 use Rattle.search.specs.Answer as search
 use Rattle.search.specs.Builds as builds
 use Rattle.search.specs.Ceilings as ceilings
 use Rattle.search.specs.Steps as steps
-use Rattle.console.specs.Printed.{foundLines, refusedLine, planned, printed}
+use Rattle.console.specs.Printed.{offsetLines, foundLines, refusedLine, planned, printed}
 
 -- `pma 1`, `10 2`, `0`, `3`, `7`, `end 3`, one a line; and the same with the byte between 3 and 7 lost
 abbrev whole : List ℕ
@@ -40,7 +43,12 @@ damaged =
     ∷ []
 
 -- "prints the four lines `found 3`, `0`, `2`, `5`"
-pub finds : printed whole ≡ foundLines 3 (0 ∷ 2 ∷ 5 ∷ [])
+pub finds : printed whole ≡
+    102 ∷ 111 ∷ 117 ∷ 110 ∷ 100 ∷ 32 ∷ 51 ∷ 10
+    ∷ 48 ∷ 10
+    ∷ 50 ∷ 10
+    ∷ 53 ∷ 10
+    ∷ []
 unfolding printed reading.reading reading.accepted reading.delaysOf faults.readFaults faults.lateFaults faults.textFaults
     faults.linesFaults faults.lineFaults faults.ownFaults faults.titleFaults faults.pairFaults faults.rowFaults faults.lastFaults
     faults.placedAt faults.firstPart faults.secondPart faults.isPair faults.linkOf faults.isLast faults.countPart faults.rowsOf
@@ -48,16 +56,17 @@ unfolding printed reading.reading reading.accepted reading.delaysOf faults.readF
     decimal.allDigits decimal.leadingZero decimal.isDecimal decimal.valueFrom first outside andThen linkFaults least oneMore
     planned rowFaults roomFaults exactFaults search.within search.outcome search.exactly
     builds.order builds.orderSteps builds.behind builds.sequences builds.leads builds.allGood builds.isWhole builds.firstOf
-    builds.count builds.counted builds.leastBuild ceilings.product ceilings.products ceilings.choices ceilings.ceilingOf
-    ceilings.ceilingUpTo steps.placed steps.from steps.besides steps.rowSteps steps.steps steps.after steps.offsetOf steps.puts
-    steps.inTheWay steps.good steps.put second start hits either meets uses
+    countIn builds.counted builds.leastBuild ceilings.product ceilings.products ceilings.choices ceilings.ceilingOf
+    ceilings.ceilingUpTo steps.placed from steps.besides steps.rowSteps steps.steps steps.after steps.offsetOf steps.puts
+    steps.inTheWay steps.good steps.put second start hits either meets uses foundLines offsetLines digitsIn
 finds = refl
 
 -- "With the newline between 3 and 7 lost it prints `refused 9 16`."
-pub refuses : printed damaged ≡ refusedLine 9 16
+pub refuses : printed damaged ≡ 114 ∷ 101 ∷ 102 ∷ 117 ∷ 115 ∷ 101 ∷ 100 ∷ 32 ∷ 57 ∷ 32 ∷ 49 ∷ 54 ∷ 10 ∷ []
 unfolding printed reading.reading reading.accepted reading.delaysOf faults.readFaults faults.lateFaults faults.textFaults
     faults.linesFaults faults.lineFaults faults.ownFaults faults.titleFaults faults.pairFaults faults.rowFaults faults.lastFaults
     faults.placedAt faults.firstPart faults.secondPart faults.isPair faults.linkOf faults.isLast faults.countPart faults.rowsOf
     faults.endOf lines.nextLine lines.begin lines.lineFrom lines.endedFrom bytes.seek bytes.same bytes.begins decimal.isOther
     decimal.allDigits decimal.leadingZero decimal.isDecimal decimal.valueFrom first outside andThen linkFaults least oneMore
+    refusedLine digitsIn
 refuses = refl

@@ -1,3 +1,2 @@
 -- The definitions that the contracts of `console` cite.
 pub mod Printed
-pub mod Placed

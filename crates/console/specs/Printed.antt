@@ -2,12 +2,13 @@
 use mathlib.Core.List.{List, [], _∷_, _++_}
 use Prim.Native.Nat.{ℕ}
 use lib.ListN.{take, replicate}
+use Rattle.ground.specs.Protocol.{Outcome}
 use Rattle.link.specs.Limits.{maxRows}
 use Rattle.link.specs.declared.Link.{Link}
 use Rattle.text.specs.Bytes.{newline, space}
 use Rattle.text.specs.Writing.{digitsIn}
 use Rattle.text.specs.Reading.{reading, Verdict as Reading·Verdict, table, refusal as unread, Outcome as Reading·Outcome}
-use Rattle.search.specs.Answer.{Verdict, plan, nothing, spent, refusal, Outcome, exactly}
+use Rattle.search.specs.Answer.{Verdict, plan, nothing, spent, refusal, Said, exactly}
 use Rattle.search.specs.Ceilings.{ceilingUpTo}
 
 -- `found`, `none` and `refused`, each with a space
@@ -19,6 +20,10 @@ noneWord = 110 ∷ 111 ∷ 110 ∷ 101 ∷ 32 ∷ []
 
 abbrev pub refusedWord : List ℕ
 refusedWord = 114 ∷ 101 ∷ 102 ∷ 117 ∷ 115 ∷ 101 ∷ 100 ∷ 32 ∷ []
+
+-- no answer takes more bytes
+abbrev pub most : ℕ
+most = 256
 
 -- a number below 2 ^ 64 has at most 20 digits
 abbrev pub maxDigits : ℕ
@@ -49,13 +54,13 @@ unfoldable pub refusedLine : ℕ → ℕ → List ℕ
 refusedLine n p = ((refusedWord ++ number n) ++ (space ∷ [])) ++ numberLine p
 
 -- what the planner answered for n rows
-abbrev pub shownAs : Verdict → Outcome → ℕ → List ℕ
+abbrev pub shownAs : Verdict → Outcome Said (List ℕ) → ℕ → List ℕ
 shownAs plan o n = foundLines (o .says .tests) (take n (o .leaves))
 shownAs nothing o n = noneLine (o .says .tests)
 shownAs spent o n = refusedLine (o .says .number) (o .says .place)
 shownAs refusal o n = refusedLine (o .says .number) (o .says .place)
 
-abbrev pub shown : Outcome → ℕ → List ℕ
+abbrev pub shown : Outcome Said (List ℕ) → ℕ → List ℕ
 shown o n = shownAs (o .says .verdict) o n
 
 -- room for every row

@@ -10,14 +10,14 @@ ghost use Prim.Native.Nat.{_+_, _*_, _≤_};
 ghost use lib.ListN.{length};
 ghost use Rattle.search.specs.Limits.{maxExactRows};
 ghost use Rattle.link.specs.Limits.{maxRows};
-ghost use Rattle.console.specs.Placed.{Adds};
-ghost use Rattle.console.specs.Printed.{offsetLines, foundLines, noneLine, refusedLine, planned, printed};
+ghost use Rattle.ground.specs.Lent.{Adds};
+ghost use Rattle.console.specs.Printed.{most, offsetLines, foundLines, noneLine, refusedLine, planned, printed};
 
-// More than any answer takes.
+// No answer takes more bytes.
 pub const MOST: usize = 256;
 
 // What the program prints for its input stands in the front of `out`; how many bytes that is.
-pub fn run(input: &[u8], out: &mut [u8; 256]) -> usize
+pub fn run(input: &[u8], out: &mut [u8; MOST]) -> usize
     ensures { λ r. ⌜ Adds (now (out .entry)) 0 (printed (now (input .entry))) r (now (out .exit)) ⌝ }
 {
     let mut delays = [0u32; MAX_ROWS];
@@ -29,7 +29,7 @@ pub fn run(input: &[u8], out: &mut [u8; 256]) -> usize
 
 // Plans a table with the ceiling as budget.
 fn plan(link: Link, delays: &[u32], out: &mut [u8]) -> usize
-    requires { ⌜ (length (now delays) ≤ maxRows) × (256 ≤ length (now out)) ⌝ }
+    requires { ⌜ (length (now delays) ≤ maxRows) × (most ≤ length (now out)) ⌝ }
     ensures { λ r. ⌜ Adds (now (out .entry)) 0 (planned link (now (delays .entry)) (length (now (delays .entry)))) r (now (out .exit)) ⌝ }
 {
     let n = delays.len();
@@ -44,7 +44,7 @@ fn plan(link: Link, delays: &[u32], out: &mut [u8]) -> usize
 
 // `found` and the tests, then one offset a line.
 fn found(out: &mut [u8], tests: u64, offsets: &[u32]) -> usize
-    requires { ⌜ (length (now offsets) ≤ maxExactRows) × (256 ≤ length (now out)) ⌝ }
+    requires { ⌜ (length (now offsets) ≤ maxExactRows) × (most ≤ length (now out)) ⌝ }
     ensures { λ r. ⌜ Adds (now (out .entry)) 0 (foundLines tests (now (offsets .entry))) r (now (out .exit)) ⌝ }
 {
     let at = put::word(out, 0, b"found ");
@@ -68,7 +68,7 @@ fn offset_lines(out: &mut [u8], from: usize, offsets: &[u32]) -> usize
 
 // `none` and the tests.
 fn none(out: &mut [u8], tests: u64) -> usize
-    requires { ⌜ 256 ≤ length (now out) ⌝ }
+    requires { ⌜ most ≤ length (now out) ⌝ }
     ensures { λ r. ⌜ Adds (now (out .entry)) 0 (noneLine tests) r (now (out .exit)) ⌝ }
 {
     let at = put::word(out, 0, b"none ");
@@ -77,7 +77,7 @@ fn none(out: &mut [u8], tests: u64) -> usize
 
 // `refused`, the number and the place.
 fn refused(out: &mut [u8], number: u32, place: usize) -> usize
-    requires { ⌜ 256 ≤ length (now out) ⌝ }
+    requires { ⌜ most ≤ length (now out) ⌝ }
     ensures { λ r. ⌜ Adds (now (out .entry)) 0 (refusedLine number place) r (now (out .exit)) ⌝ }
 {
     let at = put::word(out, 0, b"refused ");

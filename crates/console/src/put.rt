@@ -3,7 +3,7 @@ ghost use mathlib.Core.Path.{_≡_};
 ghost use Prim.Native.Nat.{_+_, _≤_};
 ghost use lib.ListN.{length, drop};
 ghost use Rattle.console.specs.Printed.{maxDigits, number, numberLine};
-ghost use Rattle.console.specs.Placed.{Adds};
+ghost use Rattle.ground.specs.Lent.{Adds};
 
 // A fixed byte string.
 pub(crate) fn word(out: &mut [u8], at: usize, bytes: &[u8]) -> usize

@@ -2,7 +2,7 @@
 pub mod Bools
 pub mod Minimum
 pub mod Counting
-pub mod Lists
+pub mod Series
 pub mod Elements
 pub mod Remainders
 pub mod Beginning

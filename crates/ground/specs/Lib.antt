@@ -1,7 +1,7 @@
 -- The definitions that every crate above stands on.
 pub mod Least
 pub mod Count
-pub mod Lists
+pub mod Series
 pub mod Words
 pub mod Lent
 pub mod Judging

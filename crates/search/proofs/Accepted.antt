@@ -16,19 +16,25 @@ use Rattle.link.proofs.Accepted.{good-room, fine-room}
 use Rattle.search.specs.Limits.{maxExactRows, tooManyRows}
 use Rattle.search.specs.Refusal.{exactFaults}
 
-module _ (k : Link) (ds : List ℕ) (room : ℕ) where
-  pub good-exact : first (exactFaults k ds room) ≡ Fine → GoodTable k ds × (length ds ≤ room) × (length ds ≤ maxExactRows)
+pub record Accepted (k : Link) (ds : List ℕ) (places : ℕ) : Type 0 where
+  pub table : GoodTable k ds
+  pub room : length ds ≤ places
+  pub few : length ds ≤ maxExactRows
+
+module _ (k : Link) (ds : List ℕ) (places : ℕ) where
+  pub good-exact : first (exactFaults k ds places) ≡ Fine → Accepted k ds places
   unfolding exactFaults
   good-exact e =
-      let w = front-fine (plannerFaults k ds room) _ e in
-      let g = good-room k ds room (w .0) in
-      (g .0, g .1, ltb-false _ _ (passed (ltb maxExactRows (length ds)) tooManyRows 0 [] (w .1) .0))
+      let w = front-fine (plannerFaults k ds places) _ e in
+      let g = good-room k ds places (w .0) in
+      let few = ltb-false _ _ (passed (ltb maxExactRows (length ds)) tooManyRows 0 [] (w .1) .0) in
+      record { table = g .0; room = g .1; few = few }
 
-  pub fine-exact : GoodTable k ds → length ds ≤ room → length ds ≤ maxExactRows → Fine ≡ first (exactFaults k ds room)
+  pub fine-exact : Accepted k ds places → Fine ≡ first (exactFaults k ds places)
   unfolding exactFaults
-  fine-exact g h m = front-pass _ _ Fine (sym (fine-room k ds room g h)) (pass _ _ tooManyRows 0 (le-ltb _ _ m) fine)
+  fine-exact g = front-pass _ _ Fine (sym (fine-room k ds places (g .table) (g .room))) (pass _ _ tooManyRows 0 (le-ltb _ _ (g .few)) fine)
 
   -- the judging gives no number from 13 on
-  pub judged-low : (n p : ℕ) → first (exactFaults k ds room) ≡ Fault n p → n < noOffset
+  pub judged-low : (n p : ℕ) → first (exactFaults k ds places) ≡ Fault n p → n < noOffset
   unfolding exactFaults linkFaults rowFaults roomFaults andThen allNumbers
-  judged-low n p e = ltb-true n noOffset (number-of (λ m. ltb m noOffset) (exactFaults k ds room) n p refl e)
+  judged-low n p e = ltb-true n noOffset (number-of (λ m. ltb m noOffset) (exactFaults k ds places) n p refl e)

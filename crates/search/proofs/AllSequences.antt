@@ -13,7 +13,7 @@ use Rattle.search.specs.Steps.{Step, rules, isStep}
 use Rattle.search.specs.Builds.{Sequence, last, onward, earlier, begin, rulesOf, sequencesOf}
 use Rattle.search.proofs.Listing.{steps-are, steps-increasing}
 use Rattle.search.proofs.Numbers.{names}
-use Rattle.ground.specs.Lists.{Increasing}
+use Rattle.ground.specs.Series.{Increasing}
 use Rattle.search.proofs.Sequences.{sequences-have, sequences-are, sequences-increasing}
 use Rattle.search.proofs.Soundness.{all-placed}
 use Rattle.search.proofs.States.{At, placed-low, put-at, begin-at}

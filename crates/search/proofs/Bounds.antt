@@ -7,9 +7,9 @@ use native.Mathlib.Omega.{arith}
 use native.Mathlib.Nat.{le-trans, le-refl, suc-mul}
 use lib.ListN.{length, length-append, length-map}
 use Rattle.ground.specs.Count.{count}
-use Rattle.ground.specs.Lists.{from}
+use Rattle.ground.specs.Series.{from}
 use Rattle.ground.proofs.Counting.{count-not}
-use Rattle.ground.proofs.Lists.{length-from}
+use Rattle.ground.proofs.Series.{length-from}
 use Rattle.link.specs.Limits.{maxRows}
 use Rattle.link.specs.Rows.{one, two}
 use Rattle.search.specs.Steps.{Step, step, Rules, rules, placed, besides, rowSteps, steps}

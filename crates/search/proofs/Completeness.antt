@@ -11,7 +11,7 @@ use lib.ListN.{length, getD}
 use borrow.Author.Tests.{lt-ltb, eq-eqb, eqb-true, eqb-false}
 use Rattle.link.specs.Rows.{Crossing, one, two, start, startAt, hits, either}
 use Rattle.ground.proofs.Bools.{clash}
-use Rattle.ground.proofs.Lists.{look}
+use Rattle.ground.proofs.Series.{look}
 use Rattle.link.proofs.Circle.{Apart, Turned}
 use Rattle.ground.proofs.Minimum.{some-none}
 use Rattle.link.proofs.Meeting.{start-low, neither}

@@ -32,15 +32,15 @@ module _ (p l : ℕ) (ds s : List ℕ) (k : Step) (some-period : 0 < p) where
       ∙ ap (offsetOf p (k .crossing) (getD ds (k .row) 0)) e
 
   -- "A step is good when j then meets no placed row in either crossing."
-  abbrev Meets : ℕ → Crossing → ℕ → Type 0
-  Meets n c i = Meet p l (start p ds s c i) (startAt p c (getD ds (k .row) 0) (puts p l ds s k))
+  abbrev Meets : Crossing → ℕ → Type 0
+  Meets c i = Meet p l (start p ds s c i) (startAt p c (getD ds (k .row) 0) (puts p l ds s k))
 
   pub good-meets-none : (n : ℕ) → l ≤ p → (good p l ds n s k ≡ true) ↔
-      ((c : Crossing) (i : ℕ) → i < n → placed p s i ≡ true → Meets n c i → ⊥)
+      ((c : Crossing) (i : ℕ) → i < n → placed p s i ≡ true → Meets c i → ⊥)
   unfolding good inTheWay hits
   good-meets-none n lp = (λ g c i h e m. clash (meets-true p l _ _ some-period m) (not-met p l ds n some-period lp s k g c i h e), back)
     where
-      free : ((c : Crossing) (i : ℕ) → i < n → placed p s i ≡ true → Meets n c i → ⊥) → (i : ℕ) → i < n → (b : Bool) → placed p s i ≡ b
+      free : ((c : Crossing) (i : ℕ) → i < n → placed p s i ≡ true → Meets c i → ⊥) → (i : ℕ) → i < n → (b : Bool) → placed p s i ≡ b
           → (b && either (hits p l ds s (getD ds (k .row) 0) (puts p l ds s k)) i) ≡ false
       free f i h false e = refl
       free f i h true e = neither (hits p l ds s (getD ds (k .row) 0) (puts p l ds s k)) i (apart one) (apart two)
@@ -48,6 +48,6 @@ module _ (p l : ℕ) (ds s : List ℕ) (k : Step) (some-period : 0 < p) where
           apart : (c : Crossing) → hits p l ds s (getD ds (k .row) 0) (puts p l ds s k) c i ≡ false
           apart c = is-false _ (λ m. f c i h e (meets-slot p l _ _ m))
 
-      back : ((c : Crossing) (i : ℕ) → i < n → placed p s i ≡ true → Meets n c i → ⊥)
+      back : ((c : Crossing) (i : ℕ) → i < n → placed p s i ≡ true → Meets c i → ⊥)
           → not (some (inTheWay p l ds s (getD ds (k .row) 0) (puts p l ds s k)) n) ≡ true
       back f = ap not (some-none _ n (λ i h. free f i h (placed p s i) refl))

@@ -9,7 +9,7 @@ use lib.Dec.{eqb·suc-suc}
 use lib.ListN.{length}
 use borrow.Author.Tests.{ne-eqb}
 use Rattle.ground.specs.Count.{countIn}
-use Rattle.ground.specs.Lists.{Before, Increasing}
+use Rattle.ground.specs.Series.{Before, Increasing}
 use Rattle.ground.proofs.Bools.{never}
 use Rattle.ground.proofs.Counting.{count-in-none}
 use Rattle.search.specs.Steps.{Step, Rules}

@@ -8,9 +8,9 @@ use native.Mathlib.Omega.{arith}
 use lib.Dec.{ltb}
 use borrow.Author.Tests.{lt-ltb, ltb-true, not-true}
 use Rattle.link.specs.Rows.{Crossing, one, two}
-use Rattle.ground.specs.Lists.{from, Increasing}
+use Rattle.ground.specs.Series.{from, Increasing}
 use Rattle.ground.proofs.Bools.{and-parts}
-use Rattle.ground.proofs.Lists.{in-from, from-in, increasing-one, from-increasing}
+use Rattle.ground.proofs.Series.{in-from, from-in, increasing-one, from-increasing}
 use Rattle.search.specs.Steps.{Step, step, placed, besides, rowSteps, steps, isStep}
 use Rattle.search.specs.Builds.{earlierStep}
 use Rattle.search.proofs.Orders.{row-first, beside-first, crossing-first}

@@ -22,11 +22,12 @@ use Rattle.search.specs.Ceilings.{ceilingOf, ceilingUpTo}
 use Rattle.search.specs.Answer.{said, Answers, ClearChoice, Fewer, Decided, given}
 use Rattle.search.specs.declared.Answer.{Answer}
 use Rattle.search.specs.declared.Answer.the-variants.{Plan, None, Spent, Refused}
+use Rattle.search.proofs.Accepted.{Accepted}
 use Rattle.search.proofs.Least.{none-none}
 use Rattle.search.proofs.Listing.{steps-increasing}
 use Rattle.search.proofs.Meaning.{choice-plan, no-plan, least-at, found-clear, tests-most}
 use Rattle.search.proofs.Thinning.{shorter-plan, fewer-plan}
-use Rattle.search.proofs.Verdicts.{unsaid, again, Accepted, Planned, means, plan-answers, none-answers}
+use Rattle.search.proofs.Verdicts.{unsaid, again, Planned, means, plan-answers, none-answers}
 
 -- "Show that no second answer satisfies it": nor a second content of the list
 pub no-second : (k : Link) (ds : List ℕ) (budget : ℕ) (old : List ℕ) (r s : Answer) (new other : List ℕ) → Answers k ds budget old r new
@@ -89,7 +90,7 @@ pub larger-budget-same : (k : Link) (ds : List ℕ) (budget larger : ℕ) (old o
 larger-budget-same k ds budget larger old old′ r s new new′ h room d a b =
     let w = same r d a in (w .0, w .1, tail-kept k ds budget old r new a, tail-kept k ds larger old′ s new′ b)
   where
-    let-through : Accepted k ds old → Accepted k ds old′
+    let-through : Accepted k ds (length old) → Accepted k ds (length old′)
     let-through g = record { table = g .table; room = room; few = g .few }
 
     same : (r : Answer) → Decided r → Answers k ds budget old r new → (s ≡ r) × (given s (length ds) new′ ≡ given r (length ds) new)

@@ -7,8 +7,8 @@ use mathlib.Core.List.{List·Memᴰ·append-cases, Memᴰ·append-left, Memᴰ·
 use Prim.Native.Nat.{ℕ, zero, suc, _≤_}
 use native.Mathlib.Omega.{arith}
 use lib.ListN.{length}
-use Rattle.ground.specs.Lists.{Before, Increasing}
-use Rattle.ground.proofs.Lists.{increasing-append, increasing-one}
+use Rattle.ground.specs.Series.{Before, Increasing}
+use Rattle.ground.proofs.Series.{increasing-append, increasing-one}
 use Rattle.search.specs.Steps.{Step, Rules}
 use Rattle.search.specs.Builds.{Sequence, last, onward, earlierStep, earlier, behind, sequences}
 use Rattle.search.proofs.Orders.{decides, itself}

@@ -25,9 +25,9 @@ use Rattle.search.proofs.Numbers.{names-at}
 abbrev rowOf : ℕ → ℕ
 rowOf k = k / (2 * maxRows)
 
-module _ (p : ℕ) (ds : List ℕ) (n : ℕ) (few : n ≤ maxRows) (xs ys : List ℕ) (st : Starts p ds n xs ys) (j : ℕ) (hj : j < n) where
-  pub starts-put : (a b : ℕ) → b ≡ second p (getD ds j 0) a → Starts p ds n (set xs j a) (set ys j b)
-  starts-put a b e =
+module _ {p : ℕ} {ds : List ℕ} {n : ℕ} (few : n ≤ maxRows) {xs ys : List ℕ} (st : Starts p ds n xs ys) {j : ℕ} (hj : j < n) where
+  pub starts-put : (a : ℕ) {b : ℕ} → b ≡ second p (getD ds j 0) a → Starts p ds n (set xs j a) (set ys j b)
+  starts-put a {b} e =
       record {
         xs-length = length-set xs j a ∙ st .xs-length;
         ys-length = length-set ys j b ∙ st .ys-length;
@@ -45,9 +45,9 @@ module _ (p : ℕ) (ds : List ℕ) (n : ℕ) (few : n ≤ maxRows) (xs ys : List
           rw (x, getD-set-other ys j i b 0 o) (st .seconds i h (rw x at q))
 
   -- where j was not placed, the other rows' second starts are still right without it
-  pub starts-put-back : (a : ℕ) (xs′ ys′ : List ℕ) → p ≤ getD xs j 0 → xs′ ≡ set xs j a → Starts p ds n xs′ ys′
+  pub starts-put-back : (a : ℕ) {xs′ ys′ : List ℕ} → p ≤ getD xs j 0 → xs′ ≡ set xs j a → Starts p ds n xs′ ys′
       → Starts p ds n (set xs′ j (getD xs j 0)) ys′
-  starts-put-back a xs′ ys′ f e new =
+  starts-put-back a {xs′} {ys′} f e new =
       rw (put-back xs xs′ j a e)
       (record {
         xs-length = st .xs-length;
@@ -60,9 +60,9 @@ module _ (p : ℕ) (ds : List ℕ) (n : ℕ) (few : n ≤ maxRows) (xs ys : List
       apart : (i : ℕ) → getD xs i 0 < p → i ≡ j → ⊥
       apart i q z = let w : getD xs i 0 ≡ getD xs j 0 = ap (λ (y : ℕ). getD xs y 0) z in omega arith
 
-module _ (p l : ℕ) (ds : List ℕ) (n : ℕ) (t : Table p l ds n) (s ys : List ℕ) (st : Starts p ds n s ys) (k a b : ℕ)
-    (ha : (a ≡ puts p l ds s (stepAt k)) × (a < p))
-    (hb : b ≡ second p (getD ds (rowOf k) 0) a) (r : Bool) (hr : r ≡ unblocked p l s ys n a b) (is : isStep p n s (stepAt k) ≡ true) where
+module _ {p l : ℕ} {ds : List ℕ} {n : ℕ} (t : Table p l ds n) {s ys : List ℕ} (st : Starts p ds n s ys) (k : ℕ)
+    (is : isStep p n s (stepAt k) ≡ true) {a b : ℕ} (ha : (a ≡ puts p l ds s (stepAt k)) × (a < p))
+    (hb : b ≡ second p (getD ds (rowOf k) 0) a) {r : Bool} (hr : r ≡ unblocked p l s ys n a b) where
   is-good : r ≡ good p l ds n s (stepAt k)
   unfolding stepAt
   is-good = unblocked-good p l ds n t s ys st (stepAt k) a b r (ha .1) (ha .0) hb hr
@@ -81,7 +81,7 @@ module _ (p l : ℕ) (ds : List ℕ) (n : ℕ) (t : Table p l ds n) (s ys : List
     unfolding tried put stepAt
     goes-deeper e = rw (sym is-good ∙ not-false r e, ha .0)
 
-    module _ (e : not r ≡ false) (s′ ys′ : List ℕ) (new : Starts p ds n s′ ys′) where
+    module _ (e : not r ≡ false) {s′ ys′ : List ℕ} (new : Starts p ds n s′ ys′) where
       abbrev there : List ℕ
       there = set s (rowOf k) a
 
@@ -89,16 +89,15 @@ module _ (p l : ℕ) (ds : List ℕ) (n : ℕ) (t : Table p l ds n) (s ys : List
       again = set s′ (rowOf k) (getD s (rowOf k) 0)
 
       row-again : s′ ≡ set s (rowOf k) a → Starts p ds n (set s′ (rowOf k) (getD s (rowOf k) 0)) ys′
-      row-again q = let w = names-at p n s k is in starts-put-back p ds n (t .rows) s ys st (rowOf k) (w .row-low) a s′ ys′
-          (w .row-free) q new
+      row-again q = let w = names-at p n s k is in starts-put-back (t .rows) st (w .row-low) a (w .row-free) q new
 
-      pub finds : (m : ℕ) → Answered (left - 1) there (d there) (Found m) s′
+      pub finds : {m : ℕ} → Answered (left - 1) there (d there) (Found m) s′
           → Answered left s (more 1 (tried (rules p l ds n) d s (stepAt k))) (Found m) s′
-      finds m w = one-more (Found m) s′ (rw (← goes-deeper e) (found-from (left - 1) there s s′ (d there) m w))
+      finds {m} w = one-more (Found m) s′ (rw (← goes-deeper e) (found-from (left - 1) there s s′ (d there) m w))
 
-      pub in-vain : (m : ℕ) → Answered (left - 1) there (d there) (Nothing m) s′
+      pub in-vain : {m : ℕ} → Answered (left - 1) there (d there) (Nothing m) s′
           → Answered left s (more 1 (tried (rules p l ds n) d s (stepAt k))) (Nothing m) again × Starts p ds n again ys′
-      in-vain m w =
+      in-vain {m} w =
           let q = ends (left - 1) there s′ _ (Nothing m) w .same in
           (one-more (Nothing m) again (nothing-again m w q), row-again q)
         where

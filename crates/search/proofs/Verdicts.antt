@@ -12,16 +12,14 @@ use Rattle.ground.specs.Protocol.{gives, keeping}
 use Rattle.ground.specs.declared.Judged.the-variants.{Fine, Fault}
 use Rattle.ground.proofs.Answers.{Told, stopped, through, told, goes-on, no-second-outcome}
 use Rattle.ground.proofs.Bools.{lt-or-ge}
-use Rattle.link.specs.Range.{GoodTable}
 use Rattle.link.specs.declared.Link.{Link}
-use Rattle.search.specs.Limits.{maxExactRows}
 use Rattle.search.specs.Refusal.{exactFaults}
 use Rattle.search.specs.Builds.{Out, found, none, planned}
 use Rattle.search.specs.Answer.{Verdict, plan, nothing, spent, refusal, Said, said, within, outcome, refusing, searched}
 use Rattle.search.specs.Answer.{exactly, Answers}
 use Rattle.search.specs.declared.Answer.{Answer}
 use Rattle.search.specs.declared.Answer.the-variants.{Plan, None, Spent, Refused}
-use Rattle.search.proofs.Accepted.{good-exact, fine-exact}
+use Rattle.search.proofs.Accepted.{Accepted, good-exact, fine-exact}
 use Rattle.search.proofs.Answering.{tests}
 
 -- the paper's form gives the answer back
@@ -41,28 +39,22 @@ again (None t) = refl
 again (Spent t) = refl
 again (Refused n p) = refl
 
--- the table was let through
-pub record Accepted (k : Link) (ds old : List ℕ) : Type 0 where
-  pub table : GoodTable k ds
-  pub room : length ds ≤ length old
-  pub few : length ds ≤ maxExactRows
-
 module _ (k : Link) (ds : List ℕ) (budget : ℕ) (old : List ℕ) where
   pub record Planned (t : ℕ) (new : List ℕ) : Type 0 where
-    pub good : Accepted k ds old
+    pub good : Accepted k ds (length old)
     pub offsets : List ℕ
     pub is : planned k ds ≡ found offsets t
     pub within-budget : t ≤ budget
     pub left : new ≡ onFront (take (length ds) offsets) old
 
   pub record Hopeless (t : ℕ) (new : List ℕ) : Type 0 where
-    pub good : Accepted k ds old
+    pub good : Accepted k ds (length old)
     pub is : planned k ds ≡ none t
     pub within-budget : t ≤ budget
     pub left : new ≡ old
 
   pub record Over (t : ℕ) (new : List ℕ) : Type 0 where
-    pub good : Accepted k ds old
+    pub good : Accepted k ds (length old)
     pub all : t ≡ budget
     pub above : budget < tests (planned k ds)
     pub left : new ≡ old
@@ -85,10 +77,8 @@ module _ (k : Link) (ds : List ℕ) (budget : ℕ) (old : List ℕ) where
       is : (s : Answer) (list : List ℕ) → gives (said r) new ≡ gives (said s) list → (new ≡ list → Means s new) → Means r new
       is s list e m = let q = no-second-outcome said unsaid again {r = r} {s = s} e refl in rw (q .0) (m (q .1))
 
-      accepted : first (exactFaults k ds (length old)) ≡ Fine → Accepted k ds old
-      accepted e = let g = good-exact k ds (length old) e in record { table = g .0; room = g .1; few = g .2 }
-
-      ended : (o : Out) → planned k ds ≡ o → Accepted k ds old → gives (said r) new ≡ outcome budget (length ds) old o → Means r new
+      ended : (o : Out) → planned k ds ≡ o → Accepted k ds (length old) → gives (said r) new ≡ outcome budget (length ds) old o
+          → Means r new
       ended (found s t) e g f =
           ⊎-elim (λ h. is (Spent budget) old (f ∙ rw (lt-ltb budget t h)) (λ q. record { good = g; all = refl; above = rw e h; left = q }))
           (λ h. is (Plan t) (onFront (take (length ds) s) old) (f ∙ rw (le-ltb budget t h))
@@ -101,12 +91,12 @@ module _ (k : Link) (ds : List ℕ) (budget : ℕ) (old : List ℕ) where
       judged : Told (keeping refusing old) (first (exactFaults k ds (length old))) (searched k ds budget old) (gives (said r) new)
           → Means r new
       judged (stopped n p e f) = is (Refused n p) old f (λ q. record { fault = e; left = q })
-      judged (through e f) = ended (planned k ds) refl (accepted e) f
+      judged (through e f) = ended (planned k ds) refl (good-exact k ds (length old) e) f
 
   -- and the way back, for the two verdicts of the search
-  module _ (g : Accepted k ds old) where
+  module _ (g : Accepted k ds (length old)) where
     fine : first (exactFaults k ds (length old)) ≡ Fine
-    fine = sym (fine-exact k ds (length old) (g .table) (g .room) (g .few))
+    fine = sym (fine-exact k ds (length old) g)
 
     pub plan-answers : (s : List ℕ) (t : ℕ) → planned k ds ≡ found s t → t ≤ budget
         → Answers k ds budget old (Plan t) (onFront (take (length ds) s) old)

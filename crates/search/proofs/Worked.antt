@@ -10,7 +10,7 @@ use Rattle.ground.specs.Count.{countIn}
 use Rattle.ground.specs.Judging.{first, outside, andThen}
 use Rattle.ground.specs.Least.{oneMore, least}
 use Rattle.ground.specs.Lent.{onFront}
-use Rattle.ground.specs.Lists.{from}
+use Rattle.ground.specs.Series.{from}
 use Rattle.link.specs.Slots.{uses, meets}
 use Rattle.link.specs.Rows.{second, start, hits, either}
 use Rattle.link.specs.Refusal.{linkFaults, rowFaults, roomFaults}

@@ -5,7 +5,7 @@ use Prim.Native.Nat.{ℕ, _+_, _-_, _%_}
 use lib.Dec.{ltb}
 use lib.ListN.{getD, set}
 use Rattle.ground.specs.Least.{some}
-use Rattle.ground.specs.Lists.{from}
+use Rattle.ground.specs.Series.{from}
 use Rattle.link.specs.Rows.{Crossing, one, two, start, hits, either}
 
 -- "A step names a row j not yet placed, a placed row i, and a crossing (1 or 2)."

@@ -4,7 +4,7 @@ use mathlib.Core.List.{map}
 use Rattle.ground.specs.Count.{count, countIn}
 use Rattle.ground.specs.Judging.{first, outside, andThen}
 use Rattle.ground.specs.Least.{oneMore, least}
-use Rattle.ground.specs.Lists.{from}
+use Rattle.ground.specs.Series.{from}
 use Rattle.link.specs.Refusal.{linkFaults, rowFaults, roomFaults, offsetFaults}
 use Rattle.link.specs.Rows.{second, start, hits, either, free, firstHit, metAt}
 use Rattle.link.specs.Slots.{uses, meets}

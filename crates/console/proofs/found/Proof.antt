@@ -1,11 +1,7 @@
 -- `found`, the tests, and the offsets, one behind the other.
-use mathlib.Core.List.{_++_}
-use Prim.Native.Nat.{_+_, _≤_}
 use native.Mathlib.Omega.{arith}
-use lib.ListN.{length, length-append}
-use Rattle.console.specs.Printed.{foundWord, numberLine, foundLines}
-use Rattle.console.proofs.Adding.{and-then}
-use Rattle.console.proofs.Spelling.{line-short}
+use Rattle.console.specs.Printed.{foundWord, foundLines}
+use Rattle.ground.proofs.Adding.{and-then}
 use borrow.Author.Needs.{needs}
 use Rattle.console.proofs.found.Statement.{statement}
 use Rattle.console.proofs.found.Tie as tie
@@ -28,14 +24,13 @@ same-length c = search needs
 returns : tie.Need-returns
 unfolding foundLines
 returns c =
-    let u = c .before .before .before .before .before .before .before .before .before .before .before .before .before .before .before .args in
-    let one : 0 + length foundWord ≤ length (u .out .now) = omega arith in
-    let at-word = c .before .before .before .before .before .before .before .before .before .before .word in
-    let at-line = c .before .before .before .before .before .before .line in
-    let two = and-then (u .out .now) 0 foundWord one _ _ (at-word .ensures) _ _ _ (at-line .ensures .0) in
-    let fits : 0 + length (foundWord ++ numberLine (u .tests)) ≤ length (u .out .now) =
-    rw (length-append foundWord (numberLine (u .tests))) (omega (arith, line-short (u .tests))) in
-    and-then (u .out .now) 0 (foundWord ++ numberLine (u .tests)) fits _ _ two _ _ _ (c .before .before .offset-lines .ensures)
+    let at-offsets = c .before .before in
+    let at-line = at-offsets .before .before .before .before in
+    let at-word = at-line .before .before .before .before in
+    let out = at-word .before .before .before .before .before .args .out .now in
+    let one = at-word .word .ensures in
+    let two = and-then out 0 foundWord (omega (arith, one .end)) _ _ one _ _ _ (at-line .line .ensures .0) in
+    and-then out 0 _ (omega (arith, two .end, one .end, at-line .line .ensures .1)) _ _ two _ _ _ (at-offsets .offset-lines .ensures)
 
 pub found-spec : {M : Type 1} → statement M
 found-spec =

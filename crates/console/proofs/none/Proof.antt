@@ -1,8 +1,7 @@
-use Prim.Native.Nat.{_+_, _≤_}
+-- `none`, and the tests behind it.
 use native.Mathlib.Omega.{arith}
-use lib.ListN.{length}
 use Rattle.console.specs.Printed.{noneWord, noneLine}
-use Rattle.console.proofs.Adding.{and-then}
+use Rattle.ground.proofs.Adding.{and-then}
 use borrow.Author.Needs.{needs}
 use Rattle.console.proofs.none.Statement.{statement}
 use Rattle.console.proofs.none.Tie as tie
@@ -22,10 +21,11 @@ same-length c = search needs
 returns : tie.Need-returns
 unfolding noneLine
 returns c =
-    let u = c .before .before .before .before .before .before .before .before .before .before in
-    let fits : 0 + length noneWord ≤ length (u .args .out .now) = omega arith in
-    let at-word = c .before .before .before .before .before .before .word in
-    and-then (u .args .out .now) 0 noneWord fits _ _ (at-word .ensures) _ _ _ (c .before .before .line .ensures .0)
+    let at-line = c .before .before in
+    let at-word = at-line .before .before .before .before in
+    let out = at-word .before .before .before .before .args .out .now in
+    let one = at-word .word .ensures in
+    and-then out 0 noneWord (omega (arith, one .end)) _ _ one _ _ _ (at-line .line .ensures .0)
 
 pub none-spec : {M : Type 1} → statement M
 none-spec =

@@ -1,13 +1,12 @@
 -- Invariant: the first i offsets stand from `from` on, and `at` is the place behind them.
-use mathlib.Core.Path.{_≡_, refl, _∙_, subst}
-use mathlib.Core.List.{List}
-use Prim.Native.Nat.{ℕ, _+_, _-_, _*_, _≤_}
+use mathlib.Core.Path.{_≡_, refl, _∙_}
+use Prim.Native.Nat.{_+_, _-_, _*_, _≤_}
 use native.Mathlib.Omega.{arith}
 use lib.ListN.{length, take}
 use lib.Seq.{take-length}
-use Rattle.console.specs.Placed.{Adds}
+use Rattle.ground.specs.Lent.{Adds}
 use Rattle.console.specs.Printed.{offsetLines}
-use Rattle.console.proofs.Adding.{nothing-yet, and-then}
+use Rattle.ground.proofs.Adding.{nothing-yet, and-then}
 use Rattle.console.proofs.Lines.{one-more}
 use borrow.Author.Needs.{needs}
 use Rattle.console.proofs.offset_lines.Statement.{statement}
@@ -41,15 +40,16 @@ loop-less c = search needs
 
 loop-again : tie.Need-loop-again Inv-loop μ-loop
 loop-again c =
-    let u = c .before .before .before .before .before .before .before .before .before .args in
-    let l = c .before .before .before .before .before .before .loop in
-    let n = c .before .before .line-of in
-    let fits : u .from + length (offsetLines (take (l .i) (u .offsets .now))) ≤ length (u .out .now) = omega (arith, l .inv .3 .end) in
-    let put = and-then (u .out .now) (u .from) (offsetLines (take (l .i) (u .offsets .now))) fits _ _ (l .inv .3) _ _ _ (n .ensures .0) in (
+    let at-line = c .before .before in
+    let at-loop = at-line .before .before .before .before in
+    let u = at-loop .before .before .before .args in
+    let l = at-loop .loop in
+    let n = at-line .line-of in
+    let put = and-then _ _ _ (omega (arith, l .inv .3 .end)) _ _ (l .inv .3) _ _ _ (n .ensures .0) in (
       omega arith,
       omega (arith, l .inv .1, n .ensures .1),
       n .kept .0 ∙ l .inv .2,
-      subst (λ (w : List ℕ). Adds (u .out .now) (u .from) w (n .result) (n .last .0)) (one-more (u .offsets .now) (l .i) (omega arith)) put,
+      rw (one-more (u .offsets .now) (l .i) (omega arith)) at put,
     )
 
 same-length : tie.Need-same-length Inv-loop μ-loop
@@ -57,11 +57,11 @@ same-length c = c .before .loop .inv .2
 
 returns : tie.Need-returns Inv-loop μ-loop
 returns c =
-    let u = c .before .before .before .before .args in
-    let l = c .before .loop in
+    let at-loop = c .before in
+    let u = at-loop .before .before .before .args in
+    let l = at-loop .loop in
     let all : l .i ≡ length (u .offsets .now) = omega arith in
-    subst (λ (xs : List ℕ). Adds (u .out .now) (u .from) (offsetLines xs) (l .at) (l .out)) (rw all (take-length (u .offsets .now)))
-    (l .inv .3)
+    rw (all, take-length) at (l .inv .3)
 
 pub offset-lines-spec : {M : Type 1} → statement M
 offset-lines-spec =

@@ -1,8 +1,7 @@
 -- What was put into the buffer lies within it.
 use mathlib.Core.Path.{sym}
-use native.Mathlib.Omega.{arith}
 use lib.Seq.{length-take-le}
-use Rattle.console.proofs.Adding.{inside}
+use Rattle.console.proofs.Promises.{printed-inside}
 use borrow.Author.Needs.{needs}
 use Rattle.exact.proofs.main.Statement.{statement}
 use Rattle.exact.proofs.main.Tie as tie
@@ -23,10 +22,10 @@ run-requires : tie.Need-run-requires
 run-requires c κs = search needs
 
 array-share-prefix-out : tie.Need-array-share-prefix-out
-array-share-prefix-out c = inside _ 0 _ _ _ (omega arith) (c .run .ensures)
+array-share-prefix-out c = printed-inside _ _ _ _ (c .run .ensures)
 
 slice-aggregate-write-all : tie.Need-slice-aggregate-write-all
-slice-aggregate-write-all c = sym (length-take-le _ _ (inside _ 0 _ _ _ (omega arith) (c .before .run .ensures)))
+slice-aggregate-write-all c = sym (length-take-le _ _ (printed-inside _ _ _ _ (c .before .run .ensures)))
 
 write-all-requires : tie.Need-write-all-requires
 write-all-requires c κs = search needs

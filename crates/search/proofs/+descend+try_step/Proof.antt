@@ -74,132 +74,123 @@ descend-returns t c = (whole _ _ _ _ (c .if1 .taken), c .before .pre .1 .1)
 
 descend-loop-holds : (t : ℕ) → descend-lts.Need-loop-holds (given-descend t) (descend-at t) descend.Post descend-Inv-loop descend-μ-loop
 descend-loop-holds t c =
-    let e = c .before .before in
-    begins _ _ _ _ (e .before .pre .1 .0) _ (e .if1 .left) _ _ _ _ (e .before .pre .1 .1) (c .next-step .ensures)
+    let some-unplaced = c .before .before in
+    begins (some-unplaced .before .pre .1 .0) (some-unplaced .if1 .left) (some-unplaced .before .pre .1 .1) (c .next-step .ensures)
 
 descend-returns-2 : (t : ℕ) → descend-lts.Need-returns-2 (given-descend t) (descend-at t) descend.Post descend-Inv-loop descend-μ-loop
 descend-returns-2 t c =
-    let g = c .before .before in
-    let e = g .before .before .before in (
-      is-broke _ _ _ _ (e .before .pre .1 .0) _ (e .if1 .left) _ _ _ _ _ _ (g .loop .inv) (c .before .loop-test .taken) (c .if2 .taken),
-      g .loop .inv .starts,
-    )
+    let at-loop = c .before .before in
+    (is-broke (at-loop .loop .inv) (c .before .loop-test .taken) (c .if2 .taken), at-loop .loop .inv .starts)
 
 descend-try-step-requires : (t : ℕ) → descend-lts.Need-try-step-requires (given-descend t)
     (descend-at t) descend.Post descend-Inv-loop descend-μ-loop
 descend-try-step-requires t c κs =
-    let i = c .before .before .before in
-    let g = i .before in
-    let e = g .before .before .before in
-    let h = e .before .pre .1 .0 .rows in
-    let m : (e .before .args .unplaced - 1) * (candidates + 1) + (candidates - g .loop .k) < t = omega (arith, e, i .loop-test .taken) in
-    let some : 0 < g .loop .left = omega (arith, c .before .before .if2 .left) in
-    (m, (e .before .pre .1 .0, g .loop .inv .starts, i .loop-test .taken, g .loop .inv .lands (i .loop-test .taken), some))
+    let in-loop = c .before .before .before in
+    let at-loop = in-loop .before in
+    let some-unplaced = at-loop .before .before .before in
+    let start = some-unplaced .before in
+    let h = start .pre .1 .0 .rows in
+    let less : (start .args .unplaced - 1) * (candidates + 1) + (candidates - at-loop .loop .k) < t =
+    omega (arith, some-unplaced, in-loop .loop-test .taken) in
+    let some : 0 < at-loop .loop .left = omega (arith, c .before .before .if2 .left) in
+    let lands = at-loop .loop .inv .lands (in-loop .loop-test .taken) in
+    (less, (start .pre .1 .0, at-loop .loop .inv .starts, in-loop .loop-test .taken, lands, some))
 
 descend-returns-3 : (t : ℕ) → descend-lts.Need-returns-3 (given-descend t) (descend-at t) descend.Post descend-Inv-loop descend-μ-loop
 descend-returns-3 t c =
-    let w = c .before .before .before in
-    let i = w .before .before .before .before in
-    let g = i .before in
-    let e = g .before .before .before in (
-      one-finds _ _ _ _ (e .before .pre .1 .0) _ (e .if1 .left) _ _ _ _ _ _ (g .loop .inv) (i .loop-test .taken) _ _
-          (told-as (c .before .deeper .given .1) (w .try-step .ensures .0)),
-      w .try-step .ensures .1,
-    )
+    let at-try = c .before .before .before in
+    let in-loop = at-try .before .before .before .before in
+    let told = told-as (c .before .deeper .given .1) (at-try .try-step .ensures .0) in
+    (one-finds (in-loop .before .loop .inv) (in-loop .loop-test .taken) told, at-try .try-step .ensures .1)
 
 descend-returns-4 : (t : ℕ) → descend-lts.Need-returns-4 (given-descend t) (descend-at t) descend.Post descend-Inv-loop descend-μ-loop
 descend-returns-4 t c =
-    let w = c .before .before in
-    let i = w .before .before .before .before in
-    let g = i .before in
-    let e = g .before .before .before in (
-      one-runs-out _ _ _ _ (e .before .pre .1 .0) _ (e .if1 .left) _ _ _ _ _ _ (g .loop .inv) (i .loop-test .taken) _
-          (told-as (c .enum-told .given .1) (w .try-step .ensures .0)),
-      w .try-step .ensures .1,
-    )
+    let at-try = c .before .before in
+    let in-loop = at-try .before .before .before .before in
+    let told = told-as (c .enum-told .given .1) (at-try .try-step .ensures .0) in
+    (one-runs-out (in-loop .before .loop .inv) (in-loop .loop-test .taken) told, at-try .try-step .ensures .1)
 
 descend-loop-again : (t : ℕ) → descend-lts.Need-loop-again (given-descend t) (descend-at t) descend.Post descend-Inv-loop descend-μ-loop
 descend-loop-again t c =
-    let u = c .before .before .before in
-    let w = u .before .before in
-    let i = w .before .before .before .before in
-    let g = i .before in
-    let e = g .before .before .before in
-    one-in-vain _ _ _ _ (e .before .pre .1 .0) _ (e .if1 .left) _ _ _ _ _ _ (g .loop .inv) (i .loop-test .taken) _ _ _ _
-    (told-as (u .deeper2 .given .1) (w .try-step .ensures .0)) (w .try-step .ensures .1) (c .next-step2 .ensures)
+    let at-nothing = c .before .before .before in
+    let at-try = at-nothing .before .before in
+    let in-loop = at-try .before .before .before .before in
+    let told = told-as (at-nothing .deeper2 .given .1) (at-try .try-step .ensures .0) in
+    one-in-vain (in-loop .before .loop .inv) (in-loop .loop-test .taken) told (at-try .try-step .ensures .1) (c .next-step2 .ensures)
 
 descend-returns-5 : (t : ℕ) → descend-lts.Need-returns-5 (given-descend t) (descend-at t) descend.Post descend-Inv-loop descend-μ-loop
 descend-returns-5 t c =
-    let g = c .before in
-    let e = g .before .before .before in
-    (no-more _ _ _ _ (e .before .pre .1 .0) _ (e .if1 .left) _ _ _ _ _ _ (g .loop .inv) (c .loop-test .left), g .loop .inv .starts)
+    let inv = c .before .loop .inv in (no-more inv (c .loop-test .left), inv .starts)
 
 try-step-turn-requires : (t : ℕ) → try-step-lts.Need-turn-requires (given-try-step t) (try-step-at t) try-step.Post
 try-step-turn-requires t c κs =
-    let e = c .before .before .before .before in
-    omega (arith, c .before .offset .ensures, e .pre .1 .0, e .pre .1 .0 .delays (e .args .k / (2 * maxRows)))
+    let start = c .before .before .before .before in
+    omega (arith, c .before .offset .ensures, start .pre .1 .0, start .pre .1 .0 .delays (start .args .k / (2 * maxRows)))
 
 try-step-returns : (t : ℕ) → try-step-lts.Need-returns (given-try-step t) (try-step-at t) try-step.Post
 try-step-returns t c =
-    let f = c .before in
-    let u = f .before .before .before in
-    let o = u .before .before in
-    let e = o .before .before .before in
-    let q = e .pre .1 in (
-      hands-over _ _ _ _ (q .0) _ _ (q .1) (e .args .k) _ _ (o .offset .ensures) (u .turn .ensures .0) _ (f .is-free .ensures) (q .3) _ _
-          (q .4) (c .if1 .taken),
-      q .1,
+    let at-free = c .before in
+    let at-turn = at-free .before .before .before in
+    let at-offset = at-turn .before .before in
+    let start = at-offset .before .before .before in
+    let given = start .pre .1 in (
+      hands-over (given .0) (given .1) (start .args .k) (given .3) (at-offset .offset .ensures) (at-turn .turn .ensures .0)
+          (at-free .is-free .ensures) _ _ (given .4) (c .if1 .taken),
+      given .1,
     )
 
 try-step-descend-requires : (t : ℕ) → try-step-lts.Need-descend-requires (given-try-step t) (try-step-at t) try-step.Post
 try-step-descend-requires t c κs =
-    let f = c .before .before .before .before in
-    let u = f .before .before .before in
-    let o = u .before .before in
-    let e = o .before .before .before in
-    let q = e .pre .1 in
-    let w = names-at _ _ _ (e .args .k) (q .3) in
-    let h = q .0 .rows in
-    let m : e .args .unplaced * (candidates + 1) < t = omega (arith, e, q .2) in
-    (m, (q .0, starts-put _ _ _ h _ _ (q .1) _ (w .row-low) _ _ (u .turn .ensures .0)))
+    let at-free = c .before .before .before .before in
+    let at-turn = at-free .before .before .before in
+    let at-offset = at-turn .before .before in
+    let start = at-offset .before .before .before in
+    let given = start .pre .1 in
+    let names = names-at _ _ _ (start .args .k) (given .3) in
+    let h = given .0 .rows in
+    let less : start .args .unplaced * (candidates + 1) < t = omega (arith, start, given .2) in
+    (less, (given .0, starts-put h (given .1) (names .row-low) _ (at-turn .turn .ensures .0)))
 
 try-step-returns-2 : (t : ℕ) → try-step-lts.Need-returns-2 (given-try-step t) (try-step-at t) try-step.Post
 try-step-returns-2 t c =
-    let w = c .before .before .before in
-    let el = w .before .before .before .before in
-    let f = el .before in
-    let u = f .before .before .before in
-    let o = u .before .before in
-    let e = o .before .before .before in
-    let q = e .pre .1 in (
-      finds _ _ _ _ (q .0) _ _ (q .1) (e .args .k) _ _ (o .offset .ensures) (u .turn .ensures .0) _ (f .is-free .ensures) (q .3) _ _ (q .4)
-          (el .if1 .left) _ _ (w .descend .ensures .1) _ (told-as (c .before .deeper .given .1) (w .descend .ensures .0)),
-      w .descend .ensures .1,
+    let at-descend = c .before .before .before in
+    let is-good = at-descend .before .before .before .before in
+    let at-free = is-good .before in
+    let at-turn = at-free .before .before .before in
+    let at-offset = at-turn .before .before in
+    let start = at-offset .before .before .before in
+    let given = start .pre .1 in (
+      finds (given .0) (given .1) (start .args .k) (given .3) (at-offset .offset .ensures) (at-turn .turn .ensures .0)
+          (at-free .is-free .ensures) _ _ (given .4) (is-good .if1 .left) (at-descend .descend .ensures .1)
+          (told-as (c .before .deeper .given .1) (at-descend .descend .ensures .0)),
+      at-descend .descend .ensures .1,
     )
 
 try-step-returns-3 : (t : ℕ) → try-step-lts.Need-returns-3 (given-try-step t) (try-step-at t) try-step.Post
 try-step-returns-3 t c =
-    let w = c .before .before .before in
-    let el = w .before .before .before .before in
-    let f = el .before in
-    let u = f .before .before .before in
-    let o = u .before .before in
-    let e = o .before .before .before in
-    let q = e .pre .1 in
-    in-vain _ _ _ _ (q .0) _ _ (q .1) (e .args .k) _ _ (o .offset .ensures) (u .turn .ensures .0) _ (f .is-free .ensures) (q .3) _ _
-    (q .4) (el .if1 .left) _ _ (w .descend .ensures .1) _ (told-as (c .before .deeper2 .given .1) (w .descend .ensures .0))
+    let at-descend = c .before .before .before in
+    let is-good = at-descend .before .before .before .before in
+    let at-free = is-good .before in
+    let at-turn = at-free .before .before .before in
+    let at-offset = at-turn .before .before in
+    let start = at-offset .before .before .before in
+    let given = start .pre .1 in
+    in-vain (given .0) (given .1) (start .args .k) (given .3) (at-offset .offset .ensures) (at-turn .turn .ensures .0)
+    (at-free .is-free .ensures) _ _ (given .4) (is-good .if1 .left) (at-descend .descend .ensures .1)
+    (told-as (c .before .deeper2 .given .1) (at-descend .descend .ensures .0))
 
 try-step-returns-4 : (t : ℕ) → try-step-lts.Need-returns-4 (given-try-step t) (try-step-at t) try-step.Post
 try-step-returns-4 t c =
-    let w = c .before .before in
-    let el = w .before .before .before .before in
-    let f = el .before in
-    let u = f .before .before .before in
-    let o = u .before .before in
-    let e = o .before .before .before in
-    let q = e .pre .1 in
-    runs-out _ _ _ _ (q .0) _ _ (q .1) (e .args .k) _ _ (o .offset .ensures) (u .turn .ensures .0) _ (f .is-free .ensures) (q .3) _ _
-    (q .4) (el .if1 .left) _ _ (w .descend .ensures .1) (told-as (c .enum-told .given .1) (w .descend .ensures .0))
+    let at-descend = c .before .before in
+    let is-good = at-descend .before .before .before .before in
+    let at-free = is-good .before in
+    let at-turn = at-free .before .before .before in
+    let at-offset = at-turn .before .before in
+    let start = at-offset .before .before .before in
+    let given = start .pre .1 in
+    runs-out (given .0) (given .1) (start .args .k) (given .3) (at-offset .offset .ensures) (at-turn .turn .ensures .0)
+    (at-free .is-free .ensures) _ _ (given .4) (is-good .if1 .left) (at-descend .descend .ensures .1)
+    (told-as (c .enum-told .given .1) (at-descend .descend .ensures .0))
 
 pub +descend+try-step-spec : {M : Type 1} → statement M
 +descend+try-step-spec = close μ-descend μ-try-step

@@ -21,7 +21,7 @@ plan-requires : tie.Need-plan-requires
 plan-requires c κs =
     let t = c .before in
     let g = good-exact _ _ _ (sym (t .before .before .judge .ensures) ∙ t .enum-told .given .1) in
-    (g .0, g .1)
+    (g .table, g .room)
 
 returns : tie.Need-returns
 unfolding said exactly

@@ -1,10 +1,10 @@
-use mathlib.Core.Path.{_∙_, subst}
-use mathlib.Core.List.{List}
-use Prim.Native.Nat.{ℕ, _-_}
+-- The digits, from the end of the array where they were spelt.
+use mathlib.Core.Path.{_∙_}
+use Prim.Native.Nat.{_-_}
 use native.Mathlib.Omega.{arith}
 use lib.ListN.{drop, length-take, length-drop}
 use lib.Seq.{take-all}
-use Rattle.console.specs.Placed.{Adds}
+use Rattle.console.specs.Printed.{maxDigits}
 use Rattle.console.proofs.Spelling.{number-short}
 use borrow.Author.Needs.{needs}
 use Rattle.console.proofs.put.decimal.Statement.{statement}
@@ -30,13 +30,14 @@ same-length c = search needs
 
 returns : tie.Need-returns
 returns c =
-    let u = c .before .before .before .before .before .before .before .before .before .args in
-    let s = c .before .before .before .before .before .before .before .spell in
-    let call = c .before .before .word in
-    let all = take-all (20 - s .result .from) (drop (s .result .from) (s .result .digits)) (simp length-drop (omega arith))
+    let at-word = c .before .before in
+    let at-spell = at-word .before .before .before .before .before in
+    let start = at-spell .before .before in
+    let s = at-spell .spell in
+    let all = take-all (maxDigits - s .result .from) (drop (s .result .from) (s .result .digits)) (simp length-drop (omega arith))
     ∙ s .ensures .2 in
-    let put = subst (λ (w : List ℕ). Adds (u .out .now) (u .at) w (call .result) (call .last .0)) all (call .ensures) in
-    (put, omega (arith, put .end, number-short (u .n)))
+    let put = rw all at (at-word .word .ensures) in
+    (put, omega (arith, put .end, number-short (start .args .n)))
 
 pub decimal-spec : {M : Type 1} → statement M
 decimal-spec =

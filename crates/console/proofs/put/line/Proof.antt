@@ -1,9 +1,6 @@
-use Prim.Native.Nat.{_+_, _≤_}
+-- The digits, and the line's end behind them.
 use native.Mathlib.Omega.{arith}
-use lib.ListN.{length}
-use Rattle.console.specs.Printed.{number}
-use Rattle.console.proofs.Adding.{and-then}
-use Rattle.console.proofs.Spelling.{number-short}
+use Rattle.ground.proofs.Adding.{and-then}
 use borrow.Author.Needs.{needs}
 use Rattle.console.proofs.put.line.Statement.{statement}
 use Rattle.console.proofs.put.line.Tie as tie
@@ -22,12 +19,15 @@ same-length c = search needs
 
 returns : tie.Need-returns
 returns c =
-    let u = c .before .before .before .before .before .before .before .before .before .before .args in
-    let d = c .before .before .before .before .before .before .before .decimal in
-    let w = c .before .before .word in
-    let at-pre = c .before .before .before .before .before .before .before .before .before .before .pre in
-    let fits : u .at + length (number (u .n)) ≤ length (u .out .now) = omega (arith, number-short (u .n), at-pre) in
-    (and-then (u .out .now) (u .at) (number (u .n)) fits _ _ (d .ensures .0) _ _ _ (w .ensures), omega (arith, w .ensures .end, d .ensures .1))
+    let at-word = c .before .before in
+    let at-decimal = at-word .before .before .before .before .before in
+    let start = at-decimal .before .before .before in
+    let d = at-decimal .decimal in
+    let w = at-word .word in
+    let digits = d .ensures .0 in (
+      and-then _ _ _ (omega (arith, digits .end, d .ensures .1, start .pre)) _ _ digits _ _ _ (w .ensures),
+      omega (arith, w .ensures .end, d .ensures .1),
+    )
 
 pub line-spec : {M : Type 1} → statement M
 line-spec =

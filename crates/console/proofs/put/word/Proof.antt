@@ -38,7 +38,8 @@ loop-again : tie.Need-loop-again Inv-loop μ-loop
 loop-again c =
     let l = c .before .before .loop in
     let u = c .before .before .before .args in
-    (omega arith, simp length-set (l .inv .1), rw (l .inv .2, add-one) (paste-suc (u .out .now) (u .at) (u .bytes .now) (l .i) 0 (omega arith) (omega arith)))
+    let more = paste-suc (u .out .now) (u .at) (u .bytes .now) (l .i) 0 (omega arith) (omega arith) in
+    (omega arith, simp length-set (l .inv .1), rw (l .inv .2, add-one) more)
 
 add-result : tie.Need-add-result Inv-loop μ-loop
 add-result c = search needs
@@ -51,7 +52,8 @@ returns c =
     let l = c .before .loop in
     let u = c .before .before .args in
     let all : l .i ≡ length (u .bytes .now) = omega arith in
-    record { end = omega arith; bytes = l .inv .2 ∙ rw (all, take-length) (append-assoc (take (u .at) (u .out .now)) (u .bytes .now) (drop (u .at + length (u .bytes .now)) (u .out .now))) }
+    let parts = append-assoc (take (u .at) (u .out .now)) (u .bytes .now) (drop (u .at + length (u .bytes .now)) (u .out .now)) in
+    record { end = omega arith; written = l .inv .2 ∙ rw (all, take-length) parts }
 
 pub word-spec : {M : Type 1} → statement M
 word-spec =

@@ -11,7 +11,7 @@ use native.Mathlib.Nat.{zero-mul, mul-zero, mul-suc, suc-mul, add-comm}
 use native.Mathlib.Numerals.{add-one}
 use lib.ListN.{length, length-append}
 use Rattle.ground.specs.Count.{count}
-use Rattle.ground.specs.Lists.{from, Before, Increasing}
+use Rattle.ground.specs.Series.{from, Before, Increasing}
 use Rattle.ground.proofs.Bools.{lt-or-ge}
 
 module _ {A : Type 0} where
