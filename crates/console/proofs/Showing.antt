@@ -1,23 +1,14 @@
 -- What the two answers on the way show. Assumes nothing.
-use mathlib.Core.Path.{_≡_, refl, sym, _∙_, ap}
-use mathlib.Core.List.{List, []}
+use mathlib.Core.Path.{_≡_, ap}
+use mathlib.Core.List.{List}
 use Prim.Native.Nat.{ℕ, _≤_}
-use lib.Dec.{ltb}
 use lib.ListN.{length}
-use borrow.Author.Tests.{ltb-false}
 use Rattle.search.specs.Limits.{maxExactRows}
-use Rattle.text.specs.Limits.{maxText, longText, bytesAfter}
-use Rattle.link.specs.Limits.{badLength}
-use Rattle.ground.specs.Judging.{first}
 use Rattle.ground.specs.Protocol.{Outcome, gives}
 use Rattle.link.specs.declared.Link.{Link}
-use Rattle.ground.specs.declared.Judged.{Judged}
-use Rattle.ground.specs.declared.Judged.the-variants.{Fine, Fault}
 use Rattle.search.proofs.Verdicts.{means}
-use Rattle.ground.proofs.Bools.{never}
-use Rattle.ground.proofs.Faults.{passed, front-fine}
-use Rattle.text.specs.Faults.{textFaults, lateFaults, readFaults, rowsOf, endOf}
-use Rattle.text.specs.Reading as reading
+use Rattle.text.proofs.Promises.{accepted-is-the-text}
+use Rattle.text.specs.Answer as reader
 use Rattle.text.specs.declared.Read.{Read}
 use Rattle.text.specs.declared.Read.the-variants.{Table}
 use Rattle.search.specs.Answer.{Said, said, Answers}
@@ -37,28 +28,12 @@ module _ (k : Link) (ds : List ℕ) (budget : ℕ) (r : Answer) (new : List ℕ)
   pub plan-few : (t : ℕ) → r ≡ Plan t → length ds ≤ maxExactRows
   plan-few t e = means k ds budget blank (Plan t) new (rw e at a) .good .few
 
-as-printed : (o : reading.Outcome) (s : reading.Said) (new : List ℕ) → s ≡ o .says → new ≡ o .leaves
-    → printedAs (s .verdict) (reading.gives s new) ≡ printedAs (o .says .verdict) o
-as-printed o s new e f = rw (e, f)
-
-module _ (x : List ℕ) (r : Read) (new : List ℕ) (e : reading.said r ≡ reading.reading x blank .says)
-    (f : new ≡ reading.reading x blank .leaves) where
+module _ (x : List ℕ) (r : Read) (new : List ℕ) (a : gives (reader.said r) new ≡ reader.reading x blank) where
   -- the reader's answer s, printed
-  pub printed-as : (s : Read) → r ≡ s → printedAs (reading.said s .verdict) (reading.gives (reading.said s) new) ≡ printed x
+  pub printed-as : (s : Read) → r ≡ s → printedAs (reader.said s .verdict) (gives (reader.said s) new) ≡ printed x
   unfolding printed
-  printed-as s g = as-printed (reading.reading x blank) (reading.said s) new (sym (ap reading.said g) ∙ e) f
+  printed-as s e = ap (λ (o : Outcome reader.Said (List ℕ)). printedAs (o .says .verdict) o) (rw e at a)
 
   -- the rows read are no more than there is room for
-  pub rows-few : (p t n : ℕ) → r ≡ Table p t n → n ≤ length blank
-  unfolding reading.reading reading.accepted reading.said readFaults lateFaults
-  rows-few p t n g = go (first (readFaults x (length blank))) refl (sym (ap reading.said g) ∙ e)
-    where
-      go : (j : Judged) → first (readFaults x (length blank)) ≡ j
-          → reading.said (Table p t n) ≡ reading.unless j blank (reading.accepted x blank) .says → n ≤ length blank
-      go (Fault m q) h i = never (cc (ap (λ (z : reading.Said). z .verdict) i))
-      go Fine h i =
-          let text = passed (ltb maxText (length x)) longText 0 _ h .1 in
-          let late = front-fine (textFaults x) (lateFaults x (length blank)) text .1 in
-          let room = passed (ltb (endOf x) (length x)) bytesAfter (endOf x) _ late .1 in
-          let rows : n ≡ rowsOf x = ap (λ (z : reading.Said). z .rows) i in
-          rw rows (ltb-false _ _ (passed (ltb (length blank) (rowsOf x)) badLength 0 [] room .0))
+  pub rows-few : (k : Link) (n : ℕ) → r ≡ Table k n → n ≤ length blank
+  rows-few k n e = accepted-is-the-text x blank k n new (rw e at a) .room

@@ -5,6 +5,7 @@ use Prim.Native.Nat.{ℕ}
 use Rattle.ground.specs.Count.{countIn}
 use Rattle.ground.specs.Least.{oneMore, least}
 use Rattle.ground.specs.Series.{from}
+use Rattle.ground.specs.Words.{begins}
 use Rattle.ground.specs.Judging.{first, outside, andThen}
 use Rattle.search.specs.Refusal.{exactFaults}
 use Rattle.link.specs.Refusal.{linkFaults, rowFaults, roomFaults}
@@ -14,7 +15,7 @@ use Rattle.text.specs.Bytes as bytes
 use Rattle.text.specs.Decimal as decimal
 use Rattle.text.specs.Faults as faults
 use Rattle.text.specs.Lines as lines
-use Rattle.text.specs.Reading as reading
+use Rattle.text.specs.Answer as reader
 use Rattle.text.specs.Writing.{digitsIn}
 use Rattle.search.specs.Answer as search
 use Rattle.search.specs.Builds as builds
@@ -49,10 +50,10 @@ pub finds : printed whole ≡
     ∷ 50 ∷ 10
     ∷ 53 ∷ 10
     ∷ []
-unfolding printed reading.reading reading.accepted reading.delaysOf faults.readFaults faults.lateFaults faults.textFaults
+unfolding printed reader.reading reader.accepted reader.delaysOf faults.readFaults faults.lateFaults faults.textFaults
     faults.linesFaults faults.lineFaults faults.ownFaults faults.titleFaults faults.pairFaults faults.rowFaults faults.lastFaults
     faults.placedAt faults.firstPart faults.secondPart faults.isPair faults.linkOf faults.isLast faults.countPart faults.rowsOf
-    faults.endOf lines.nextLine lines.begin lines.lineFrom lines.endedFrom bytes.seek bytes.same bytes.begins decimal.isOther
+    faults.endOf lines.nextLine lines.begin lines.lineFrom lines.endedFrom bytes.seek bytes.same begins decimal.isOther
     decimal.allDigits decimal.leadingZero decimal.isDecimal decimal.valueFrom first outside andThen linkFaults least oneMore
     planned rowFaults roomFaults exactFaults search.within search.outcome search.exactly
     builds.order builds.orderSteps builds.behind builds.sequences builds.leads builds.allGood builds.isWhole builds.firstOf
@@ -63,10 +64,10 @@ finds = refl
 
 -- "With the newline between 3 and 7 lost it prints `refused 9 16`."
 pub refuses : printed damaged ≡ 114 ∷ 101 ∷ 102 ∷ 117 ∷ 115 ∷ 101 ∷ 100 ∷ 32 ∷ 57 ∷ 32 ∷ 49 ∷ 54 ∷ 10 ∷ []
-unfolding printed reading.reading reading.accepted reading.delaysOf faults.readFaults faults.lateFaults faults.textFaults
+unfolding printed reader.reading reader.accepted reader.delaysOf faults.readFaults faults.lateFaults faults.textFaults
     faults.linesFaults faults.lineFaults faults.ownFaults faults.titleFaults faults.pairFaults faults.rowFaults faults.lastFaults
     faults.placedAt faults.firstPart faults.secondPart faults.isPair faults.linkOf faults.isLast faults.countPart faults.rowsOf
-    faults.endOf lines.nextLine lines.begin lines.lineFrom lines.endedFrom bytes.seek bytes.same bytes.begins decimal.isOther
+    faults.endOf lines.nextLine lines.begin lines.lineFrom lines.endedFrom bytes.seek bytes.same begins decimal.isOther
     decimal.allDigits decimal.leadingZero decimal.isDecimal decimal.valueFrom first outside andThen linkFaults least oneMore
     refusedLine digitsIn
 refuses = refl

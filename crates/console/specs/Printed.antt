@@ -7,7 +7,7 @@ use Rattle.link.specs.Limits.{maxRows}
 use Rattle.link.specs.declared.Link.{Link}
 use Rattle.text.specs.Bytes.{newline, space}
 use Rattle.text.specs.Writing.{digitsIn}
-use Rattle.text.specs.Reading.{reading, Verdict as Reading·Verdict, table, refusal as unread, Outcome as Reading·Outcome}
+use Rattle.text.specs.Answer.{reading, Verdict as Reading, table, refusal as unread, Said as Read}
 use Rattle.search.specs.Answer.{Verdict, plan, nothing, spent, refusal, Said, exactly}
 use Rattle.search.specs.Ceilings.{ceilingUpTo}
 
@@ -71,8 +71,9 @@ blank = replicate maxRows 0
 unfoldable pub planned : Link → List ℕ → ℕ → List ℕ
 planned k ds n = shown (exactly k ds (ceilingUpTo n) blank) n
 
-abbrev pub printedAs : Reading·Verdict → Reading·Outcome → List ℕ
-printedAs table o = planned (record { period = o .says .period; size = o .says .size }) (take (o .says .rows) (o .leaves)) (o .says .rows)
+-- what the reader answered
+abbrev pub printedAs : Reading → Outcome Read (List ℕ) → List ℕ
+printedAs table o = planned (o .says .link) (take (o .says .rows) (o .leaves)) (o .says .rows)
 printedAs unread o = refusedLine (o .says .number) (o .says .place)
 
 -- "reads a text table from standard input"

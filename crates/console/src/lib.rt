@@ -23,7 +23,7 @@ pub fn run(input: &[u8], out: &mut [u8; MOST]) -> usize
     let mut delays = [0u32; MAX_ROWS];
     match text::read_table(input, &mut delays) {
         Read::Refused { number, place } => refused(out, number, place),
-        Read::Table { period, size, rows } => plan(Link { period, size }, &delays[..rows], out),
+        Read::Table { link, rows } => plan(link, &delays[..rows], out),
     }
 }
 
