@@ -217,7 +217,7 @@ fn input(line: &[u8], at: usize) {
     let mut bytes = [0u8; 1100];
     let given = cases::bytes(line, at, &mut bytes);
     let n = given.count;
-    let mut out = [0u8; 256];
+    let mut out = [0u8; console::MOST];
     let k = console::run(&bytes[..n], &mut out);
     show::one(k as u64);
     show::bytes(&out[..k]);

@@ -1,8 +1,7 @@
 -- What was put into the buffer lies within it.
 use mathlib.Core.Path.{sym}
-use native.Mathlib.Omega.{arith}
 use lib.Seq.{length-take-le}
-use Rattle.console.proofs.Adding.{inside}
+use Rattle.console.proofs.Promises.{printed-inside}
 use borrow.Author.Needs.{needs}
 use Rattle.replay.proofs.input.Statement.{statement}
 use Rattle.replay.proofs.input.Tie as tie
@@ -26,10 +25,10 @@ one-requires : tie.Need-one-requires
 one-requires c κs = search needs
 
 array-share-prefix-out : tie.Need-array-share-prefix-out
-array-share-prefix-out c = inside _ 0 _ _ _ (omega arith) (c .before .run .ensures)
+array-share-prefix-out c = printed-inside _ _ _ _ (c .before .run .ensures)
 
 slice-aggregate-bytes-2 : tie.Need-slice-aggregate-bytes-2
-slice-aggregate-bytes-2 c = sym (length-take-le _ _ (inside _ 0 _ _ _ (omega arith) (c .before .before .run .ensures)))
+slice-aggregate-bytes-2 c = sym (length-take-le _ _ (printed-inside _ _ _ _ (c .before .before .run .ensures)))
 
 bytes-requires-2 : tie.Need-bytes-requires-2
 bytes-requires-2 c κs = search needs
