@@ -1,12 +1,14 @@
 -- What the file reader promises. Assumes nothing.
 use mathlib.Core.Path.{_≡_, refl, sym, ap, _∙_}
-use mathlib.Core.List.{[], _∷_}
+use mathlib.Core.List.{List, [], _∷_}
 use Prim.Native.Nat.{ℕ}
-use denote.Ref.{now}
+use lib.ListN.{length}
+use denote.Ref.{RefT, now}
 use Rattle.link.specs.Limits.{maxPeriod, badPeriod}
 use Rattle.ground.specs.Judging.{outside}
 use Rattle.ground.proofs.Answers.{no-second}
 use Rattle.planfile.specs.Number.{readNumber, groupsRead, onto, ending}
+use Rattle.planfile.specs.Format.{tag}
 use Rattle.planfile.specs.FileMeaning.{Step, got, stopped, after, number}
 use Rattle.planfile.specs.Answer.{taken}
 use Rattle.planfile.specs.declared.Taken.{Taken}
@@ -23,6 +25,14 @@ taken-again : (t : Taken) → untaken (taken t) ≡ t
 unfolding taken
 taken-again (Value v next) = refl
 taken-again (Refused n p) = refl
+
+-- no second reader is opened
+pub no-second-reader : (s : RefT (List ℕ)) (r r′ : FileReader) → (r .bytes ≡ s) × (r .at ≡ length tag) →
+    (r′ .bytes ≡ s) × (r′ .at ≡ length tag) → r ≡ r′
+no-second-reader s r r′ w w′ =
+    let bytes = w .0 ∙ sym (w′ .0) in
+    let place = w .1 ∙ sym (w′ .1) in
+    λ i. record { bytes = bytes i; at = place i }
 
 -- no second number, and no second reader after it
 pub no-second-number : (d : FileReader) (low high fault : ℕ) (q q′ : NumberRead) → ReadsNumber d low high fault q →

@@ -21,30 +21,30 @@ use Rattle.quick.specs.declared.Planned.the-variants.{Plan, Refused}
 use Rattle.quick.proofs.FirstFit.{first-fit-plan, first-fit-thirteen}
 use Rattle.quick.proofs.Promises.{no-second, plan-is-right, thirteen-exactly, row-0-has-one, refusal-keeps}
 
-abbrev link : ℕ → ℕ → Link
+abbrev pub link : ℕ → ℕ → Link
 link p t = record { period = p; size = t }
 
-abbrev ds₁ : List ℕ
+abbrev pub ds₁ : List ℕ
 ds₁ = 0 ∷ 3 ∷ 7 ∷ []
 
 abbrev ds₂ : List ℕ
 ds₂ = 0 ∷ 2 ∷ 1 ∷ 1 ∷ []
 
 -- a list of four places
-abbrev old : List ℕ
+abbrev pub old : List ℕ
 old = 9 ∷ 9 ∷ 9 ∷ 9 ∷ []
 
-abbrev plan₁ : List ℕ
+abbrev pub plan₁ : List ℕ
 plan₁ = 0 ∷ 2 ∷ 6 ∷ 9 ∷ []
 
 -- "10, 2, (0 3 7): .. Meta-Offset 0 2 6"
-multiples : gives (said Plan) plan₁ ≡ metaOffset (link 10 2) ds₁ old
+pub multiples : gives (said Plan) plan₁ ≡ metaOffset (link 10 2) ds₁ old
 unfolding said quick outcome placed place freeAt free hits first andThen linkFaults rowFaults roomFaults start outside either second uses
     meets least oneMore
 multiples = refl
 
 -- "5, 2, (0 4): First Fit 0 3."
-fits : gives (said Plan) (0 ∷ 3 ∷ 9 ∷ 9 ∷ []) ≡ firstFit (link 5 2) (0 ∷ 4 ∷ []) old
+pub fits : gives (said Plan) (0 ∷ 3 ∷ 9 ∷ 9 ∷ []) ≡ firstFit (link 5 2) (0 ∷ 4 ∷ []) old
 unfolding said quick outcome placed place freeAt free hits first andThen linkFaults rowFaults roomFaults start outside either second uses
     meets least oneMore
 fits = refl

@@ -1,7 +1,7 @@
 -- Where some offsets are clear, a step leads on: rows that are not placed move back slot by slot, all together, until one touches a
 -- placed row; that step is good, and the offsets agree with where it leads. Assumes nothing.
 use mathlib.Core.Path.{_≡_, refl, sym, ap, _∙_, subst}
-use mathlib.Core.Logic.{_⊎_, ⊎-elim}
+use mathlib.Core.Logic.{⊎-elim}
 use mathlib.Core.Bool.{Bool, true, false, _&&_, not, cond}
 use mathlib.Core.List.{List, List·Memᴰ}
 use Prim.Native.Nat.{ℕ, zero, suc, _-_, _<_, _≤_}

@@ -89,7 +89,9 @@ module _ (k : Link) (ds : List ℕ) (g : GoodTable k ds) where
   two-line = text-line 1 (pairLine k) (omega arith) refl
 
   pub row-there : (i : ℕ) → i < length ds → getD (tableLines k ds) (suc (suc i)) [] ≡ digits (getD ds i 0)
-  row-there i h = List·getD-append (map digits ds) (lastLine (length ds) ∷ []) [] i (omega (arith, length-map ds digits)) ∙ getD-mapped digits ds 0 [] i h
+  row-there i h =
+      List·getD-append (map digits ds) (lastLine (length ds) ∷ []) [] i (omega (arith, length-map ds digits))
+      ∙ getD-mapped digits ds 0 [] i h
 
   pub last-there : getD (tableLines k ds) (suc (suc (length ds))) [] ≡ lastLine (length ds)
   last-there = getD-at (map digits ds) (lastLine (length ds)) [] [] (length ds) (length-map ds digits)

@@ -8,13 +8,14 @@ use lib.ListN.{length, getD}
 use Rattle.link.specs.Rows.{spanOf}
 use Rattle.link.specs.declared.Link.{Link}
 use Rattle.ground.specs.Protocol.{gives}
-use Rattle.quick.specs.Answer.{said, quick, firstFit, metaOffset}
+use Rattle.quick.specs.Answer.{said, quick}
 use Rattle.quick.specs.Right.{GivenPlan}
 use Rattle.quick.specs.Ways.{Ways}
 use Rattle.quick.specs.declared.Planned.the-variants.{Plan}
 use Rattle.quick.proofs.Candidates.{next-low}
 use Rattle.quick.proofs.Entries.{each-offset, multiples}
 use Rattle.quick.proofs.Promises.{plan-is-right}
+use Rattle.quick.proofs.Worked.{link, ds₁, old, plan₁, fits, multiples as by-multiples}
 use Rattle.search.specs.Answer.{Answers, ClearChoice}
 use Rattle.search.specs.declared.Answer.the-variants.{None}
 use Rattle.search.proofs.Promises.{clear-plan-never-none}
@@ -45,17 +46,11 @@ module _ (k : Link) (ds old new : List ℕ) where
       let g = plan-is-right k ds old (spanOf k) (k .period / spanOf k) Plan new e .0 refl in
       never-none k ds old (spanOf k) (k .period / spanOf k) new g (multiples k ds (g .table))
 
--- on document 01's first table: First Fit has a plan, so "none" is never said of it, at any budget; and so for Meta-Offset
-module _ (new : List ℕ) (budget : ℕ) (list : List ℕ) (t : ℕ) (left : List ℕ) where
-  abbrev first-link : Link
-  first-link = record { period = 10; size = 2 }
+-- used on document 01's tables: "none" is never said of 5, 2, (0 4), where First Fit has a plan, nor of the first table, where
+-- Meta-Offset has one
+module _ (budget : ℕ) (list : List ℕ) (t : ℕ) (left : List ℕ) where
+  pub fits-never-none : Answers (link 5 2) (0 ∷ 4 ∷ []) budget list (None t) left → ⊥
+  fits-never-none = first-fit-never-none (link 5 2) (0 ∷ 4 ∷ []) old (0 ∷ 3 ∷ 9 ∷ 9 ∷ []) fits budget list t left
 
-  abbrev delays : List ℕ
-  delays = 0 ∷ 3 ∷ 7 ∷ []
-
-  pub first-table : gives (said Plan) new ≡ firstFit first-link delays (7 ∷ 7 ∷ 7 ∷ []) → Answers first-link delays budget list (None t) left → ⊥
-  first-table e = first-fit-never-none first-link delays (7 ∷ 7 ∷ 7 ∷ []) new e budget list t left
-
-  pub first-table-multiples : gives (said Plan) new ≡ metaOffset first-link delays (7 ∷ 7 ∷ 7 ∷ [])
-      → Answers first-link delays budget list (None t) left → ⊥
-  first-table-multiples e = meta-offset-never-none first-link delays (7 ∷ 7 ∷ 7 ∷ []) new e budget list t left
+  pub multiples-never-none : Answers (link 10 2) ds₁ budget list (None t) left → ⊥
+  multiples-never-none = meta-offset-never-none (link 10 2) ds₁ old plan₁ by-multiples budget list t left

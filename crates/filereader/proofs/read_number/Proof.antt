@@ -110,6 +110,7 @@ module _ {M : Type 1} (𝓤 : URA M) (H : Heap 𝓤) (A : Atoms 𝓤) (W : Given
         qed W (Token ∷ ‵ (owns (T.the-row (α κ) ∷ u32 ∷ u32 ∷ u32 ∷ []) a vs) ∷ []) ∵
         move ! (1 ∷ []) $ fsplit ! $ use1 W (‵ (Bytes κ (d .bytes))) (bytes-of κ 𝓤 H A W (d .bytes) (d .at)) $
         use1 W (‵ (Bytes κ (d .bytes)) ⊛ ‵ (Bytes κ (d .bytes))) (shr-slice-copy 𝓤 H A W (named 0) κ u8 .twice (d .bytes) _) $ split ! $
+        -- [what the bytes own, twice; what the numbers own; the token]
         keep ! (3 ∷ 0 ∷ 1 ∷ []) $ use2 W (raw (Take 𝓤 H A mem run .pre to-take))
         (brings 𝓤 H A W take.ended (take.clauses 𝓤 H A mem run) to-take (ShrSlice (named 0) κ u8) (usize ∷ u32 ∷ u32 ∷ u32 ∷ [])
         (d .bytes) (slice (d .bytes) ∷ []) (to-take .0 .3 .1) (to-take .0 .4 .1)

@@ -130,7 +130,9 @@ module _ {M : Type 1} (𝓤 : URA M) (H : Heap 𝓤) (A : Atoms 𝓤) (W : Given
         let twice = shr-slice-copy 𝓤 H A W (named 0) κ u8 .twice s (slice s ∷ []) in
         qed W ((‵ (flft κ q₀) ⊛ Others) ∷ ‵ (fsep (Bytes κ s) Lists) ∷ []) ∵ split ! $ nothing ! $ move ! (1 ∷ 0 ∷ []) $ join ! $
         move ! (2 ∷ []) $ fsplit ! $ use1 W (‵ (Bytes κ s) ⊛ ‵ (Bytes κ s)) twice $ split ! $
-        use1 W (‵ (Bytes κ s) ⊛ ‵ (Bytes κ s)) twice $ split ! $ move ! (4 ∷ 0 ∷ []) $
+        use1 W (‵ (Bytes κ s) ⊛ ‵ (Bytes κ s)) twice $ split ! $
+        -- [what the bytes own, three times; what the lists own; the first token; the others]
+        move ! (4 ∷ 0 ∷ []) $
         use2 W (raw (Open 𝓤 H A mem run .pre to-open))
         (brings 𝓤 H A W opens.ended (opens.clauses 𝓤 H A mem run) to-open (ShrSlice (named 0) κ u8) [] s (slice s ∷ [])
         tt tt tt tt (id⊢ 𝓤 _)) $
