@@ -26,9 +26,6 @@ apart-true p l a b w = and-both _ _ (le-leb _ _ (w .0)) (le-leb _ _ (w .1))
 pub apart-near : (p l a b : ℕ) → gap a b < l → apartb p l a b ≡ false
 apart-near p l a b h = is-false _ (λ e. let w = apart-parts p l a b e in omega arith)
 
-pub apart-far : (p l a b : ℕ) → p < gap a b + l → apartb p l a b ≡ false
-apart-far p l a b h = is-false _ (λ e. let w = apart-parts p l a b e in omega arith)
-
 -- how code shows it: the distance is d
 pub apart-when : (p l a b d : ℕ) → l ≤ d → d ≡ gap a b → leb (d + l) p ≡ apartb p l a b
 unfolding apartb
