@@ -23,7 +23,7 @@ use Rattle.checker.proofs.Judging.{clear-fine, fine-clear, unclear}
 use Rattle.planfile.specs.Bytes.{Bytes}
 use Rattle.planfile.specs.Causes.{badFile, leftOver}
 use Rattle.planfile.specs.Number.{moreGroups, limit, numberBytes, readNumber}
-use Rattle.planfile.specs.Format.{tag, planBytes}
+use Rattle.planfile.specs.Format.{tag, planBytes, placeOf}
 use Rattle.planfile.specs.FileMeaning.{got, header, Rows, rows, plan, closing, body, meaning}
 use Rattle.planfile.specs.Answer.{IsFileOf, readSaid, Gives, refuses, readGives, delivered}
 use Rattle.planfile.specs.Answer.{WrittenSaid, writtenSaid, refusesWrite, writeFaults, writeGives}
@@ -139,11 +139,11 @@ module _ (k : Link) (ds os : List ℕ) (g : GoodPlan k ds os) (oldD oldO : List 
   unfolding readGives delivered
   bytes-added b bs = refused-so _ oldD oldO badFile _ (rw (added-means k ds os b bs g))
 
-  -- cut anywhere it is 16
+  -- cut anywhere it is 16, at the first byte of the tag or number that was cut
   pub bytes-cut : (m : ℕ) → m < length (planBytes k ds os) → Reads (take m (planBytes k ds os)) oldD oldO r ds′ os′
-      → (p : ℕ) × RefusedAt badFile p r oldD ds′ oldO os′
+      → RefusedAt badFile (placeOf k ds os m) r oldD ds′ oldO os′
   unfolding readGives delivered
-  bytes-cut m h w = let c = cut-anywhere k ds os m g h in (c .0, refused-so _ oldD oldO badFile (c .0) (rw (c .1)) w)
+  bytes-cut m h = refused-so _ oldD oldO badFile _ (rw (cut-anywhere k ds os m g h))
 
 -- A number has one encoding: its bytes read as it, and bytes that read as it, to their end, are its bytes.
 pub one-encoding : (bs : List ℕ) (v : ℕ) → Bytes bs → v < limit moreGroups → (readNumber bs ≡ Value v (length bs)) ↔ (bs ≡ numberBytes v)

@@ -23,7 +23,7 @@ use Rattle.checker.proofs.Promises.{collision-is-first}
 use Rattle.checker.proofs.Worked.{collides, not-clear}
 use Rattle.planfile.specs.Bytes.{Bytes}
 use Rattle.planfile.specs.Number.{limit, groups, numberBytes, ending, onto, groupsRead, readNumber}
-use Rattle.planfile.specs.Format.{tag, headerBytes, rowsBytes, planBytes}
+use Rattle.planfile.specs.Format.{tag, headerBytes, rowsBytes, planBytes, rowsParts, numbersParts, planParts, firstByte, placeOf}
 use Rattle.planfile.specs.FileMeaning.{got, number, header, row, rows, plan, meaning}
 use Rattle.planfile.specs.declared.Number.the-variants.{Needless}
 use Rattle.planfile.specs.declared.PlanRead.{PlanRead}
@@ -132,9 +132,13 @@ pub one-byte-added : (r : PlanRead) (ds os : List ℕ) → Reads (file ++ (0 ∷
 one-byte-added r ds os =
     rw file-of-the-first-table at (bytes-added firstLink delays offsets (first-table-is-clear .0) [] [] r ds os 0 [])
 
-pub last-byte-cut : (r : PlanRead) (ds os : List ℕ) → Reads (take 12 file) [] [] r ds os → (p : ℕ) × RefusedAt 16 p r [] ds [] os
+last-byte : placeOf firstLink delays offsets 12 ≡ 12
+unfolding firstByte planParts numbersParts rowsParts numberBytes groups
+last-byte = refl
+
+pub last-byte-cut : (r : PlanRead) (ds os : List ℕ) → Reads (take 12 file) [] [] r ds os → RefusedAt 16 12 r [] ds [] os
 last-byte-cut r ds os =
-    rw file-of-the-first-table at
+    rw (file-of-the-first-table, last-byte) at
     (bytes-cut firstLink delays offsets (first-table-is-clear .0) [] [] r ds os 12 (rw file-of-the-first-table (omega arith)))
 
 -- "First table, offsets 0 2 4": not clear
