@@ -1,17 +1,18 @@
 -- What the bytes say of a number, byte by byte, and how large it and its length can be. Assumes nothing.
-use mathlib.Core.Path.{_≡_, refl, ap, _∙_}
+use mathlib.Core.Path.{_≡_, refl, ap}
 use mathlib.Core.Bool.{Bool, true, false, cond}
-use mathlib.Core.List.{List, [], _∷_, append-assoc}
+use mathlib.Core.List.{List, [], _∷_}
 use Prim.Native.Nat.{ℕ, zero, suc, _+_, _-_, _*_, _/_, _%_, _≤_, _<_}
 use native.Mathlib.Omega.{arith}
 use native.Mathlib.Numerals.{add-one}
 use lib.Dec.{ltb, eqb}
 use lib.ListN.{length, getD, drop, set, drop-of-length-le}
-use lib.Seq.{drop-cons, take-suc-set}
+use lib.Seq.{drop-cons}
 use borrow.Author.Tests.{lt-ltb, le-ltb, eq-eqb, ne-eqb, ltb-true, eqb-false}
 use Rattle.link.specs.Limits.{maxDelay}
+use Rattle.ground.specs.Lent.{Adds}
+use Rattle.ground.proofs.Adding.{one-set, and-then}
 use Rattle.ground.proofs.Bools.{clash}
-use Rattle.planfile.specs.Format.{Put}
 use Rattle.planfile.specs.Number.{moreGroups, limit, groups, numberBytes, ending, onto, groupsRead}
 use Rattle.planfile.specs.declared.Number.{Number}
 use Rattle.planfile.specs.declared.Number.the-variants.{Value, Cut, TooLong, Needless}
@@ -160,14 +161,13 @@ length-groups (suc more) x = go (ltb x 128) (length-groups more (x / 128))
     go true h = omega arith
     go false h = omega arith
 
-pub group-stored : (file : List ℕ) (at x more : ℕ) → at < length file → x < 128 → Put file at (groups more x) (set file at x) (at + 1)
-group-stored file at x more l h = rw (one-group more x h) (refl, rw add-one (take-suc-set file at x l))
+pub group-stored : (file : List ℕ) (at x more : ℕ) → at < length file → x < 128 → Adds file at (groups more x) (at + 1) (set file at x)
+group-stored file at x more l h = rw (one-group more x h) (one-set file at x l)
 
 pub groups-stored : (file last : List ℕ) (at x more r : ℕ) → at < length file → 1 ≤ more → 128 ≤ x →
-    Put (set file at (128 + x % 128)) (at + 1) (groups (more - 1) (x / 128)) last r → Put file at (groups more x) last r
-groups-stored file last at x more r l m h p =
-    rw (more-groups more x m h)
-    (omega (arith, p .0), p .1 ∙ rw (add-one, take-suc-set file at (128 + x % 128) l, append-assoc))
+    Adds (set file at (128 + x % 128)) (at + 1) (groups (more - 1) (x / 128)) r last → Adds file at (groups more x) r last
+groups-stored file last at x more r l m h a =
+    rw (more-groups more x m h) (and-then file at ((128 + x % 128) ∷ []) (omega arith) _ _ (one-set file at (128 + x % 128) l) _ r last a)
 
 pub length-number : (x : ℕ) → length (numberBytes x) ≤ 4
 unfolding numberBytes

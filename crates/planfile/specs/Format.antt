@@ -4,7 +4,7 @@ use mathlib.Core.List.{List, [], _∷_, _++_}
 use mathlib.Core.Path.{_≡_}
 use Prim.Native.Nat.{ℕ, _+_, _*_, _≤_, _<_}
 use lib.Dec.{ltb}
-use lib.ListN.{length, getD, take}
+use lib.ListN.{length, getD}
 use Rattle.link.specs.Limits.{maxRows}
 use Rattle.link.specs.declared.Link.{Link}
 use Rattle.planfile.specs.Number.{limit, moreGroups, numberBytes}
@@ -53,10 +53,6 @@ headerRoom = 3 * 4
 
 abbrev pub rowsRoom : ℕ
 rowsRoom = 8 * maxRows
-
--- bytes were put at a place: next is the place after them, and up to there the file is as before, then those bytes
-abbrev pub Put : List ℕ → ℕ → List ℕ → List ℕ → ℕ → Type 0
-Put before at bytes after next = (next ≡ at + length bytes) × (take next after ≡ take at before ++ bytes)
 
 -- rows whose numbers have at most four bytes each
 pub record RowsFit (ds os : List ℕ) : Type 0 where
