@@ -101,6 +101,7 @@ module _ (bs oldD oldO : List ℕ) (h : Bytes bs) (k : Link) (n : ℕ) (ds os : 
       pick l xs ys m true f = never (cc (ap (λ (o : ReadGives). o .says .verdict) f))
       pick l xs ys m false f = of-plan l xs ys m f
 
-      go : (m : Meaning) → meaning bs ≡ m → gives (readsPlan k n) (lists ds os) ≡ delivered m oldD oldO → AcceptedFile bs oldD oldO k n ds os
+      go : (m : Meaning) → meaning bs ≡ m → gives (readsPlan k n) (lists ds os) ≡ delivered m oldD oldO
+          → AcceptedFile bs oldD oldO k n ds os
       go (plan l xs ys) m f = pick l xs ys m (ltb (length oldD) (length xs) || ltb (length oldO) (length ys)) f
       go (refused x y) m f = never (cc (ap (λ (o : ReadGives). o .says .verdict) f))

@@ -8,7 +8,7 @@ use lib.ListN.{length, take, drop, length-append}
 use lib.Seq.{take-append-le, take-append-add}
 use borrow.Author.Tests.{lt-ltb, le-ltb}
 use Rattle.ground.specs.Words.{begins}
-use Rattle.ground.proofs.Bools.{lt-or-ge}
+use Rattle.ground.proofs.Bools.{never, lt-or-ge}
 use Rattle.link.specs.Limits.{maxPeriod, maxDelay, maxRows, badPeriod, badSize, badDelay, badRows, badOffset}
 use Rattle.link.specs.Range.{GoodTable, GoodPlan}
 use Rattle.link.specs.declared.Link.{Link}
@@ -75,7 +75,7 @@ module _ (bs : List ℕ) (place : ℕ) where
           let here : drop at bs ≡ take (c .kept) (numberBytes v) = c .here
           ∙ take-append-le (c .kept) (numberBytes v) (flatten parts) (omega arith) in
           let first : at ≡ place = sym (in-first (numberBytes v) parts at (at + c .kept) (omega arith)) ∙ c .begins in
-          cut (sym (number-form bs at lo hi fault Cut (sym (rw here (number-cut v (c .kept) q))) refl cutOff refl)
+          cut (sym (number-form bs at lo hi fault Cut (sym (rw here (number-cut v (c .kept) q))) (λ _ _ e. never (cc)) cutOff refl)
           ∙ ap (stopped cutOff) first)
 
       beyond : length (numberBytes v) ≤ c .kept → Either (number bs at lo hi fault) v bs parts place

@@ -12,11 +12,11 @@ use borrow.Author.Tests.{lt-ltb, le-ltb, eq-eqb, ne-eqb, ltb-true, eqb-false}
 use Rattle.link.specs.Limits.{maxDelay}
 use Rattle.ground.specs.Lent.{Adds}
 use Rattle.ground.proofs.Adding.{one-set, and-then}
-use Rattle.ground.proofs.Bools.{clash}
+use Rattle.ground.proofs.Bools.{never}
 use Rattle.planfile.specs.Number.{moreGroups, limit, groups, numberBytes, ending, onto, groupsRead}
 use Rattle.planfile.specs.declared.Number.{Number}
 use Rattle.planfile.specs.declared.Number.the-variants.{Value, Cut, TooLong, Needless}
-use Rattle.planfile.proofs.NoValue.{isValue}
+use Rattle.planfile.proofs.NoValue.{NoValue}
 
 -- how the code shows what the bytes from `at` on say
 module _ (more : ℕ) (first : Bool) (bs : List ℕ) (at : ℕ) where
@@ -51,9 +51,9 @@ pub not-zero : (first : Bool) (b : ℕ) → (b ≡ 0 → ⊥) → Value b 1 ≡ 
 unfolding ending
 not-zero first b h = rw (ne-eqb _ _ h)
 
-pub passes : (b : ℕ) (q : Number) → isValue q ≡ false → onto b q ≡ q
+pub passes : (b : ℕ) (q : Number) → NoValue q → onto b q ≡ q
 unfolding onto
-passes b (Value v n) h = clash {x = true} refl h
+passes b (Value v n) h = absurd (h v n refl)
 passes b Cut h = refl
 passes b TooLong h = refl
 passes b Needless h = refl
@@ -116,9 +116,9 @@ bounded more first (b ∷ bs) = go (ltb b 128) (eqb more 0) refl refl (bounded (
 
 value-bounded : (more size : ℕ) (q : Number) (v n : ℕ) → Bounded more size q → q ≡ Value v n → Small more size v n
 value-bounded more size (Value w m) v n h e = let a : w ≡ v = cc in let b : m ≡ n = cc in rw (← a, ← b) h
-value-bounded more size Cut v n h e = clash {x = isValue Cut} (ap isValue e) refl
-value-bounded more size TooLong v n h e = clash {x = isValue TooLong} (ap isValue e) refl
-value-bounded more size Needless v n h e = clash {x = isValue Needless} (ap isValue e) refl
+value-bounded more size Cut v n h e = never (cc)
+value-bounded more size TooLong v n h e = never (cc)
+value-bounded more size Needless v n h e = never (cc)
 
 pub small : (more : ℕ) (first : Bool) (bs : List ℕ) (v n : ℕ) → groupsRead more first bs ≡ Value v n → Small more (length bs) v n
 small more first bs v n e = value-bounded more (length bs) _ v n (bounded more first bs) e

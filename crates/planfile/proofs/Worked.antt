@@ -166,7 +166,8 @@ with-tag : begins tag unclear-file ≡ true
 unfolding begins
 with-tag = refl
 
-pub not-read : Bytes unclear-file → (r : PlanRead) (ds os : List ℕ) → Reads unclear-file [] [] r ds os → (j : ℕ) × RefusedAt 18 j r [] ds [] os
+pub not-read : Bytes unclear-file → (r : PlanRead) (ds os : List ℕ) → Reads unclear-file [] [] r ds os
+    → (j : ℕ) × RefusedAt 18 j r [] ds [] os
 not-read b r ds os v =
     let w = after-the-last-number unclear-file firstLink 3 7 (record { delays = delays; offsets = others }) 13 with-tag head-read rows-read
     [] [] r ds os v b (omega arith) not-clear in
