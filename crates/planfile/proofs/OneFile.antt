@@ -2,29 +2,28 @@
 use mathlib.Core.Path.{_≡_, refl, sym, ap, _∙_}
 use mathlib.Core.Bool.{Bool, true, false, cond}
 use mathlib.Core.List.{List, [], _∷_, _++_, append-assoc, append-nil}
+use mathlib.Core.Logic.{⊎-elim}
 use Prim.Native.Nat.{ℕ, zero, suc, _-_, _≤_, _<_}
 use native.Mathlib.Omega.{arith}
-use lib.Dec.{ltb}
 use lib.ListN.{length, getD, drop, drop-of-length-le}
 use lib.Seq.{drop-drop}
-use borrow.Author.Tests.{ltb-false}
 use Rattle.link.specs.Limits.{maxDelay, badDelay, badOffset}
 use Rattle.link.specs.Range.{GoodPlan}
 use Rattle.link.specs.declared.Link.{Link}
 use Rattle.ground.specs.Judging.{first}
 use Rattle.checker.specs.Judging.{clearFaults}
 use Rattle.ground.specs.declared.Judged.the-variants.{Fine}
-use Rattle.ground.specs.Protocol.{unless}
 use Rattle.ground.proofs.Answers.{let-through}
-use Rattle.ground.proofs.Bools.{never}
+use Rattle.ground.proofs.Bools.{never, lt-or-ge}
 use Rattle.planfile.specs.Bytes.{Bytes}
-use Rattle.planfile.specs.Causes.{wrongTag, leftOver}
+use Rattle.planfile.specs.Causes.{wrongTag}
 use Rattle.planfile.specs.Number.{numberBytes}
 use Rattle.planfile.specs.Format.{tag, headerBytes, rowsBytes, planBytes}
 use Rattle.planfile.specs.FileMeaning.{Step, got, stopped, number, Head, header, Row, row, Rows, rows, Meaning, plan, refused}
 use Rattle.ground.specs.Words.{begins}
 use Rattle.planfile.specs.FileMeaning.{means, closing, body, meaning}
 use Rattle.ground.proofs.Beginning.{begins-with}
+use Rattle.planfile.proofs.Closing.{some-left, none-left}
 use Rattle.planfile.proofs.Encoding.{drop-bytes, number-only}
 use Rattle.planfile.proofs.RoundTrip.{three}
 use Rattle.planfile.proofs.Accepting.{before, Took, took, Headed, headed}
@@ -164,21 +163,20 @@ record Closed (bs : List ℕ) (k k′ : Link) (ds ds′ os os′ : List ℕ) (at
 
 closed : (bs : List ℕ) (k k′ : Link) (ds ds′ os os′ : List ℕ) (at : ℕ) → closing bs k ds os at ≡ plan k′ ds′ os′ →
     Closed bs k k′ ds ds′ os os′ at
-unfolding closing
-closed bs k k′ ds ds′ os os′ at e = go (ltb at (length bs)) refl e
+closed bs k k′ ds ds′ os os′ at e = ⊎-elim some none (lt-or-ge at (length bs))
   where
-    go : (b : Bool) → ltb at (length bs) ≡ b →
-        cond b (refused leftOver at) (unless refused (first (clearFaults k ds os)) (plan k ds os)) ≡ plan k′ ds′ os′ →
-        Closed bs k k′ ds ds′ os os′ at
-    go true b-is f = never (cc)
-    go false b-is f =
-        let w = let-through refused (first (clearFaults k ds os)) (λ n q h. never (cc)) (sym f) in
+    some : at < length bs → Closed bs k k′ ds ds′ os os′ at
+    some h = never (cc (some-left bs k ds os at h))
+
+    none : length bs ≤ at → Closed bs k k′ ds ds′ os os′ at
+    none h =
+        let w = let-through refused (first (clearFaults k ds os)) (λ n q h. never (cc)) (sym e ∙ none-left bs k ds os at h) in
         let same = w .1 in
         let k-is : k ≡ k′ = cc in
         let d-is : ds ≡ ds′ = cc in
         let o-is : os ≡ os′ = cc in
         record {
-          all = ltb-false at (length bs) b-is;
+          all = h;
           fine = rw (← k-is, ← d-is, ← o-is) (w .0);
           same-link = k-is;
           same-delays = d-is;
