@@ -1,11 +1,12 @@
 -- Numbers put one after the other. Assumes nothing.
-use mathlib.Core.Path.{_≡_, sym, _∙_, ap}
-use mathlib.Core.List.{List, [], _++_, append-assoc}
-use Prim.Native.Nat.{ℕ, _+_, _-_, _≤_}
+use mathlib.Core.Path.{_≡_, refl, sym, _∙_, ap}
+use mathlib.Core.List.{List, [], _∷_, _++_, append-assoc}
+use Prim.Native.Nat.{ℕ, _+_, _-_, _≤_, _<_}
 use native.Mathlib.Omega.{arith}
 use native.Mathlib.Nat.{add-assoc, add-zero}
-use lib.ListN.{length, take, drop, length-append, length-drop, take-append-drop}
-use lib.Seq.{take-at, drop-at, length-take-le, drop-drop}
+use native.Mathlib.Numerals.{add-one}
+use lib.ListN.{length, take, drop, set, length-append, length-drop, take-append-drop}
+use lib.Seq.{take-at, drop-at, length-take-le, drop-drop, set-split}
 use Rattle.ground.specs.Lent.{Adds}
 
 module _ (old : List ℕ) (at : ℕ) (w : List ℕ) (fits : at + length w ≤ length old) where
@@ -43,6 +44,14 @@ module _ (old : List ℕ) (at : ℕ) (w : List ℕ) (fits : at + length w ≤ le
 pub nothing-yet : (old : List ℕ) (at : ℕ) → Adds old at [] at old
 nothing-yet old at =
     record { end = omega arith; written = sym (ap (λ (n : ℕ). take at old ++ drop n old) (add-zero at) ∙ take-append-drop at old) }
+
+-- one number that is stored
+pub one-set : (old : List ℕ) (at x : ℕ) → at < length old → Adds old at (x ∷ []) (at + 1) (set old at x)
+one-set old at x h = record { end = refl; written = rw add-one (set-split old at x h) }
+
+-- what stands at the buffer's front
+pub on-front : (old w : List ℕ) (r : ℕ) (new : List ℕ) → Adds old 0 w r new → take r new ≡ w
+on-front old w r new a = rw (a .written) (take-at w (drop (0 + length w) old) r (omega (arith, a .end)))
 
 -- what was put lies within the buffer
 pub inside : (old : List ℕ) (at : ℕ) (w : List ℕ) (r : ℕ) (new : List ℕ) → at ≤ length old → Adds old at w r new → r ≤ length new

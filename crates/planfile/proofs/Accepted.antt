@@ -7,7 +7,7 @@ use native.Mathlib.Omega.{arith}
 use lib.Dec.{ltb}
 use lib.ListN.{length, take, drop, length-append, length-drop}
 use lib.Seq.{take-append-seam}
-use borrow.Author.Tests.{lt-ltb, le-ltb}
+use borrow.Author.Tests.{le-ltb}
 use Rattle.ground.specs.Lent.{onFront}
 use Rattle.ground.specs.Protocol.{gives}
 use Rattle.ground.proofs.Bools.{never}
@@ -22,6 +22,7 @@ use Rattle.planfile.specs.Format.{planBytes}
 use Rattle.planfile.specs.FileMeaning.{Meaning, plan, refused, closing, meaning}
 use Rattle.planfile.specs.Answer.{lists, readSaid, readsPlan, ReadGives, Gives, refuses, delivers, delivered, readGives}
 use Rattle.planfile.specs.declared.PlanRead.the-variants.{Plan}
+use Rattle.planfile.proofs.Closing.{some-left, none-left}
 use Rattle.planfile.proofs.OneFile.{accepted}
 use Rattle.planfile.proofs.RoundTrip.{reached}
 
@@ -34,11 +35,10 @@ module _ (k : Link) (ds os : List ℕ) where
   means-its-plan w =
       let r = rw (append-nil (planBytes k ds os)) at (reached k ds os [] (w .0)) in
       let all : length (planBytes k ds os) ≤ r .place = omega (arith, length-drop (r .place) (planBytes k ds os), ap length (r .left)) in
-      r .here ∙ rw (le-ltb _ _ all, ← clear-fine k ds os (w .0) (w .1))
+      r .here ∙ rw (none-left (planBytes k ds os) k ds os (r .place) all, ← clear-fine k ds os (w .0) (w .1))
 
   pub added-means : (b : ℕ) (bs : List ℕ) → GoodPlan k ds os
       → meaning (planBytes k ds os ++ (b ∷ bs)) ≡ refused badFile (length (planBytes k ds os))
-  unfolding closing
   added-means b bs g =
       let r = reached k ds os (b ∷ bs) g in
       let size = length-drop (r .place) (planBytes k ds os ++ (b ∷ bs)) in
@@ -46,7 +46,7 @@ module _ (k : Link) (ds os : List ℕ) where
       let whole = length-append (planBytes k ds os) (b ∷ bs) in
       let more : r .place < length (planBytes k ds os ++ (b ∷ bs)) = omega arith in
       let place : r .place ≡ length (planBytes k ds os) = omega arith in
-      r .here ∙ rw (lt-ltb _ _ more, place)
+      r .here ∙ some-left _ k ds os (r .place) more ∙ ap (refused badFile) place
 
   -- its bytes are delivered into lists with room
   pub reads-back : ClearPlan k ds os → (oldD oldO : List ℕ) → length ds ≤ length oldD → length os ≤ length oldO
@@ -101,6 +101,7 @@ module _ (bs oldD oldO : List ℕ) (h : Bytes bs) (k : Link) (n : ℕ) (ds os : 
       pick l xs ys m true f = never (cc (ap (λ (o : ReadGives). o .says .verdict) f))
       pick l xs ys m false f = of-plan l xs ys m f
 
-      go : (m : Meaning) → meaning bs ≡ m → gives (readsPlan k n) (lists ds os) ≡ delivered m oldD oldO → AcceptedFile bs oldD oldO k n ds os
+      go : (m : Meaning) → meaning bs ≡ m → gives (readsPlan k n) (lists ds os) ≡ delivered m oldD oldO
+          → AcceptedFile bs oldD oldO k n ds os
       go (plan l xs ys) m f = pick l xs ys m (ltb (length oldD) (length xs) || ltb (length oldO) (length ys)) f
       go (refused x y) m f = never (cc (ap (λ (o : ReadGives). o .says .verdict) f))

@@ -1,5 +1,5 @@
 -- What it means that a step of the reader got something. Assumes nothing.
-use mathlib.Core.Path.{_≡_, refl, sym, ap}
+use mathlib.Core.Path.{_≡_, refl, sym}
 use mathlib.Core.Bool.{Bool, true, false, cond}
 use mathlib.Core.List.{List}
 use Prim.Native.Nat.{ℕ, _+_, _≤_}
@@ -8,22 +8,11 @@ use lib.ListN.{drop}
 use borrow.Author.Tests.{ltb-false}
 use Rattle.link.specs.Limits.{maxPeriod, maxRows, badPeriod, badSize, badRows}
 use Rattle.ground.specs.Judging.{outside}
-use Rattle.link.specs.declared.Link.{Link}
-use Rattle.ground.proofs.Bools.{clash, or-none}
+use Rattle.ground.proofs.Bools.{never, or-none}
 use Rattle.planfile.specs.Number.{readNumber}
 use Rattle.planfile.specs.FileMeaning.{Step, got, stopped, passing, ranged, number, Head, header}
 use Rattle.planfile.specs.declared.Number.{Number}
 use Rattle.planfile.specs.declared.Number.the-variants.{Value, Cut, TooLong, Needless}
-
-abbrev pub isGot : {A : Type 0} → Step A → Bool
-isGot (got a n) = true
-isGot (stopped n p) = false
-
-pub value-of : {A : Type 0} {a b : A} {n m : ℕ} → got a n ≡ got b m → a ≡ b
-value-of e = cc
-
-pub place-of : {A : Type 0} {a b : A} {n m : ℕ} → got a n ≡ got b m → n ≡ m
-place-of e = cc
 
 -- a step that was followed by another got something
 pub record Before {A B : Type 0} (s : Step A) (f : A → ℕ → Step B) (b : B) (n : ℕ) : Type 0 where
@@ -33,8 +22,8 @@ pub record Before {A B : Type 0} (s : Step A) (f : A → ℕ → Step B) (b : B)
   pub after : f value place ≡ got b n
 
 pub before : {A B : Type 0} (s : Step A) (f : A → ℕ → Step B) (b : B) (n : ℕ) → passing s f ≡ got b n → Before s f b n
-before {A} {B} (got a m) f b n e = record { value = a; place = m; here = refl; after = e }
-before {A} {B} (stopped m p) f b n e = clash {x = isGot {A = B} (stopped m p)} (ap isGot e) refl
+before (got a m) f b n e = record { value = a; place = m; here = refl; after = e }
+before (stopped m p) f b n e = never (cc)
 
 -- a number that was got is in its range, and stands at its place
 pub record Took (bs : List ℕ) (at lo hi v next : ℕ) : Type 0 where
@@ -50,7 +39,7 @@ unfolding outside
 took-ranged bs at lo hi fault v next (Value w n) r e = go (outside lo hi w) refl e
   where
     go : (b : Bool) → outside lo hi w ≡ b → cond b (stopped fault at) (got w (at + n)) ≡ got v next → Took bs at lo hi v next
-    go true o f = clash {x = isGot {A = ℕ} (stopped fault at)} (ap isGot f) refl
+    go true o f = never (cc)
     go false o f =
         let i = or-none (ltb w lo) (ltb hi w) o in
         let same : w ≡ v = cc in
@@ -62,35 +51,34 @@ took-ranged bs at lo hi fault v next (Value w n) r e = go (outside lo hi w) refl
           reads = rw same at r;
           ends = sym ends;
         }
-took-ranged bs at lo hi fault v next Cut r e = clash {x = isGot {A = ℕ} (stopped 0 0)} (ap isGot e) refl
-took-ranged bs at lo hi fault v next TooLong r e = clash {x = isGot {A = ℕ} (stopped 0 0)} (ap isGot e) refl
-took-ranged bs at lo hi fault v next Needless r e = clash {x = isGot {A = ℕ} (stopped 0 0)} (ap isGot e) refl
+took-ranged bs at lo hi fault v next Cut r e = never (cc)
+took-ranged bs at lo hi fault v next TooLong r e = never (cc)
+took-ranged bs at lo hi fault v next Needless r e = never (cc)
 
 pub took : (bs : List ℕ) (at lo hi fault v next : ℕ) → number bs at lo hi fault ≡ got v next → Took bs at lo hi v next
 unfolding number
 took bs at lo hi fault v next e = took-ranged bs at lo hi fault v next (readNumber (drop at bs)) refl e
 
 -- the three numbers of a header
-pub record Headed (bs : List ℕ) (at : ℕ) (k : Link) (n next : ℕ) : Type 0 where
+pub record Headed (bs : List ℕ) (at : ℕ) (h : Head) (next : ℕ) : Type 0 where
   pub at-size : ℕ
   pub at-rows : ℕ
-  pub period : Took bs at 1 maxPeriod (k .period) at-size
-  pub size : Took bs at-size 1 (k .period) (k .size) at-rows
-  pub rows : Took bs at-rows 1 maxRows n next
+  pub period : Took bs at 1 maxPeriod (h .link .period) at-size
+  pub size : Took bs at-size 1 (h .link .period) (h .link .size) at-rows
+  pub rows : Took bs at-rows 1 maxRows (h .rows) next
 
-same-headed : (bs : List ℕ) (at : ℕ) {k k′ : Link} {n n′ m m′ : ℕ} → k ≡ k′ → n ≡ n′ → m ≡ m′ → Headed bs at k n m → Headed bs at k′ n′ m′
-same-headed bs at e f g h = rw (← e, ← f, ← g) h
+same-headed : (bs : List ℕ) (at : ℕ) {h h′ : Head} {m m′ : ℕ} → h ≡ h′ → m ≡ m′ → Headed bs at h m → Headed bs at h′ m′
+same-headed bs at e f w = rw (← e, ← f) w
 
-pub headed : (bs : List ℕ) (at : ℕ) (k : Link) (n next : ℕ) → header bs at ≡ got (record { link = k; rows = n }) next →
-    Headed bs at k n next
+pub headed : (bs : List ℕ) (at : ℕ) (h : Head) (next : ℕ) → header bs at ≡ got h next → Headed bs at h next
 unfolding header
-headed bs at k n next e =
+headed bs at h next e =
     let p = before (number bs at 1 maxPeriod badPeriod) _ _ _ e in
     let s = before (number bs (p .place) 1 (p .value) badSize) _ _ _ (p .after) in
     let r = before (number bs (s .place) 1 maxRows badRows) _ _ _ (s .after) in
-    let is-k : _≡_ {A = Link} (record { period = p .value; size = s .value }) k = ap (λ (x : Head). x .link) (value-of (r .after)) in
-    let is-n : r .value ≡ n = ap (λ (x : Head). x .rows) (value-of (r .after)) in
-    same-headed bs at is-k is-n (place-of (r .after))
+    let same : _≡_ {A = Head} (record { link = record { period = p .value; size = s .value }; rows = r .value }) h = cc (r .after) in
+    let ends : r .place ≡ next = cc (r .after) in
+    same-headed bs at same ends
     (record {
       at-size = p .place;
       at-rows = s .place;

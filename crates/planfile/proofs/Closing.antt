@@ -8,10 +8,11 @@ use borrow.Author.Tests.{lt-ltb, le-ltb}
 use Rattle.link.specs.Limits.{badLength}
 use Rattle.link.specs.declared.Link.{Link}
 use Rattle.ground.specs.Judging.{first}
+use Rattle.ground.specs.Protocol.{unless}
 use Rattle.checker.specs.Judging.{clearFaults}
 use Rattle.ground.specs.declared.Judged.the-variants.{Fine, Fault}
 use Rattle.planfile.specs.Causes.{leftOver}
-use Rattle.planfile.specs.FileMeaning.{Step, got, stopped, Rows, closing}
+use Rattle.planfile.specs.FileMeaning.{Step, got, stopped, Rows, plan, refused, closing}
 use Rattle.planfile.specs.Answer.{refuses, delivers, delivered, rowsed}
 use Rattle.planfile.specs.declared.RowsRead.{RowsRead}
 use Rattle.planfile.specs.declared.RowsRead.the-variants.{End, Refused}
@@ -26,26 +27,36 @@ module _ (r : RowsRead) (ds os : List ℕ) (s : Step Rows) (e : rowsed r ds os �
   unfolding rowsed
   rows-refused n p f = sym e ∙ ap (λ (x : RowsRead). rowsed x ds os) f
 
+-- "After the last number: 16 for bytes left over", before anything else is judged
+module _ (bs : List ℕ) (k : Link) (ds os : List ℕ) (at : ℕ) where
+  pub some-left : at < length bs → closing bs k ds os at ≡ refused leftOver at
+  unfolding closing
+  some-left h = rw (lt-ltb _ _ h)
+
+  pub none-left : length bs ≤ at → closing bs k ds os at ≡ unless refused (first (clearFaults k ds os)) (plan k ds os)
+  unfolding closing
+  none-left h = rw (le-ltb _ _ h)
+
 module _ (bs : List ℕ) (k : Link) (ds os : List ℕ) (at : ℕ) (oldD oldO : List ℕ) where
   pub left-over : at < length bs → delivered (closing bs k ds os at) oldD oldO ≡ refuses leftOver at oldD oldO
-  unfolding closing delivered
-  left-over h = rw (lt-ltb _ _ h)
+  unfolding delivered
+  left-over h = rw (some-left bs k ds os at h)
 
   module _ (all : length bs ≤ at) where
     pub unclear : (n p : ℕ) → first (clearFaults k ds os) ≡ Fault n p → delivered (closing bs k ds os at) oldD oldO ≡ refuses n p oldD oldO
-    unfolding closing delivered
-    unclear n p e = rw (le-ltb _ _ all, e)
+    unfolding delivered
+    unclear n p e = rw (none-left bs k ds os at all, e)
 
     module _ (fine : first (clearFaults k ds os) ≡ Fine) where
       pub short-delays : length oldD < length ds → delivered (closing bs k ds os at) oldD oldO ≡ refuses badLength 0 oldD oldO
-      unfolding closing delivered
-      short-delays h = rw (le-ltb _ _ all, fine, lt-ltb _ _ h)
+      unfolding delivered
+      short-delays h = rw (none-left bs k ds os at all, fine, lt-ltb _ _ h)
 
       pub short-offsets : length oldO < length os → delivered (closing bs k ds os at) oldD oldO ≡ refuses badLength 0 oldD oldO
-      unfolding closing delivered
-      short-offsets h = rw (le-ltb _ _ all, fine, lt-ltb _ _ h, or-true)
+      unfolding delivered
+      short-offsets h = rw (none-left bs k ds os at all, fine, lt-ltb _ _ h, or-true)
 
       pub copied-out : length ds ≤ length oldD → length os ≤ length oldO →
           delivered (closing bs k ds os at) oldD oldO ≡ delivers k ds os oldD oldO
-      unfolding closing delivered
-      copied-out h l = rw (le-ltb _ _ all, fine, le-ltb _ _ h, le-ltb _ _ l)
+      unfolding delivered
+      copied-out h l = rw (none-left bs k ds os at all, fine, le-ltb _ _ h, le-ltb _ _ l)

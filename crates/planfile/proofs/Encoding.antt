@@ -9,12 +9,11 @@ use lib.Dec.{ltb, eqb}
 use lib.ListN.{length, take, drop, length-drop}
 use lib.Seq.{getD-drop}
 use borrow.Author.Tests.{lt-ltb, le-ltb, ne-eqb, ltb-true, ltb-false, eqb-true, eqb-false}
-use Rattle.ground.proofs.Bools.{clash, lt-or-ge}
+use Rattle.ground.proofs.Bools.{never, lt-or-ge}
 use Rattle.planfile.specs.Bytes.{Bytes}
 use Rattle.planfile.specs.Number.{moreGroups, limit, groups, numberBytes, ending, onto, groupsRead, readNumber}
 use Rattle.planfile.specs.declared.Number.{Number}
 use Rattle.planfile.specs.declared.Number.the-variants.{Value, Cut, TooLong, Needless}
-use Rattle.planfile.proofs.NoValue.{isValue}
 use Rattle.planfile.proofs.Numbers.{one-group, more-groups}
 
 pub tail-bytes : (b : ℕ) (bs : List ℕ) → Bytes (b ∷ bs) → Bytes bs
@@ -82,8 +81,8 @@ last-encoded more first b bs v n l e = go (eqb b 0) first refl refl e
     go : (z f : Bool) → eqb b 0 ≡ z → first ≡ f → cond z (cond f (Value 0 1) Needless) (Value b 1) ≡ Value v n →
         Encoded more first (b ∷ bs) v n
     go true true z f h = let v-is : 0 ≡ v = cc in let n-is : 1 ≡ n = cc in rw (f, ← v-is, ← n-is, ← eqb-true b 0 z)
-        (one true (λ q. clash {x = true} refl q))
-    go true false z f h = clash {x = isValue Needless} (ap isValue h) refl
+        (one true (λ q. never (cc)))
+    go true false z f h = never (cc)
     go false g z f h = let v-is : b ≡ v = cc in let n-is : 1 ≡ n = cc in
         rw (← v-is, ← n-is) (one first (λ q. omega (arith, eqb-false b 0 z)))
 
@@ -91,9 +90,9 @@ onto-value : (b : ℕ) (q : Number) (v n : ℕ) → onto b q ≡ Value v n → (
     (n ≡ suc m)
 unfolding onto
 onto-value b (Value w m) v n e = let v-is : b % 128 + 128 * w ≡ v = cc in let n-is : suc m ≡ n = cc in (w, m, refl, sym v-is, sym n-is)
-onto-value b Cut v n e = clash {x = isValue Cut} (ap isValue e) refl
-onto-value b TooLong v n e = clash {x = isValue TooLong} (ap isValue e) refl
-onto-value b Needless v n e = clash {x = isValue Needless} (ap isValue e) refl
+onto-value b Cut v n e = never (cc)
+onto-value b TooLong v n e = never (cc)
+onto-value b Needless v n e = never (cc)
 
 more-encoded : (more : ℕ) (first : Bool) (b : ℕ) (bs : List ℕ) (w m v n : ℕ) → 1 ≤ more → 128 ≤ b → b < 256 → v ≡ b % 128 + 128 * w →
     n ≡ suc m →
@@ -113,7 +112,7 @@ more-encoded more first b bs w m v n h l k v-is n-is e =
 pub only-groups : (more : ℕ) (first : Bool) (bs : List ℕ) (v n : ℕ) → Bytes bs → groupsRead more first bs ≡ Value v n →
     Encoded more first bs v n
 unfolding groupsRead
-only-groups more first [] v n h e = clash {x = isValue Cut} (ap isValue e) refl
+only-groups more first [] v n h e = never (cc)
 only-groups more first (b ∷ bs) v n h e = go (ltb b 128) (eqb more 0) refl refl e
     (λ w m f. only-groups (more - 1) false bs w m (tail-bytes b bs h) f)
   where
@@ -121,7 +120,7 @@ only-groups more first (b ∷ bs) v n h e = go (ltb b 128) (eqb more 0) refl ref
         cond x (ending first b) (cond y TooLong (onto b (groupsRead (more - 1) false bs))) ≡ Value v n →
         ((w m : ℕ) → groupsRead (more - 1) false bs ≡ Value w m → Encoded (more - 1) false bs w m) → Encoded more first (b ∷ bs) v n
     go true y x-is y-is f deeper = last-encoded more first b bs v n (ltb-true b 128 x-is) f
-    go false true x-is y-is f deeper = clash {x = isValue TooLong} (ap isValue f) refl
+    go false true x-is y-is f deeper = never (cc)
     go false false x-is y-is f deeper =
         let o = onto-value b (groupsRead (more - 1) false bs) v n f in
         more-encoded more first b bs (o .0) (o .1) v n (omega (arith, eqb-false more 0 y-is)) (ltb-false b 128 x-is)
@@ -146,7 +145,7 @@ cut-groups (suc more) first x (suc m) h = ⊎-elim low (λ k. high k (λ l. cut-
 -- the same of a whole number
 pub number-reads : (x : ℕ) (rest : List ℕ) → x < limit moreGroups → readNumber (numberBytes x ++ rest) ≡ Value x (length (numberBytes x))
 unfolding readNumber numberBytes
-number-reads x rest h = reads-written moreGroups true x rest h (λ e. clash {x = true} refl e)
+number-reads x rest h = reads-written moreGroups true x rest h (λ e. never (cc))
 
 pub number-only : (bs : List ℕ) (v n : ℕ) → Bytes bs → readNumber bs ≡ Value v n →
     (bs ≡ numberBytes v ++ drop n bs) × (n ≡ length (numberBytes v))

@@ -4,7 +4,7 @@ use mathlib.Core.Path.{_≡_, refl, sym, ap, _∙_, subst}
 use mathlib.Core.Bool.{Bool, true, false, cond}
 use mathlib.Core.List.{List, []}
 use Prim.Native.Nat.{ℕ}
-use native.Mathlib.Omega.{arith}
+use Rattle.ground.proofs.Bools.{never}
 use Rattle.link.specs.declared.Link.{Link}
 use Rattle.planfile.specs.Bytes.{Bytes}
 use Rattle.planfile.specs.Causes.{wrongTag}
@@ -33,8 +33,8 @@ module _ (bs : List ℕ) (at : ℕ) where
   in-range (Read k n next) e = go (begins tag bs) e
     where
       go : (b : Bool) → got (record { link = k; rows = n }) next ≡ cond b (header bs at) (stopped wrongTag 0) → InRange (Read k n next)
-      go true f = let r = header-read bs at k n next (sym f) in (r .period .low, r .rows .high)
-      go false f = let z : _≡_ {A = ℕ} 0 1 = cc in absurd (omega arith)
+      go true f = let r = header-read bs at (record { link = k; rows = n }) next (sym f) in (r .period .low, r .rows .high)
+      go false f = never (cc)
 
   module _ (h : Header) (oldD oldO : List ℕ) where
     pub head-refused : (n p : ℕ) → h ≡ Refused n p → restGives bs at h oldD oldO ≡ refuses n p oldD oldO

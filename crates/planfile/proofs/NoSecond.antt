@@ -44,6 +44,7 @@ written-again (File n) = refl
 written-again (WriteRefused n p) = refl
 
 -- of the writer: an answer and the buffer
-pub no-second-writing : (k : Link) (ds os old : List ℕ) (r r′ : PlanWritten) (bs bs′ : List ℕ) → gives (writtenSaid r) bs ≡ writeGives k ds os old →
+pub no-second-writing : (k : Link) (ds os old : List ℕ) (r r′ : PlanWritten) (bs bs′ : List ℕ)
+    → gives (writtenSaid r) bs ≡ writeGives k ds os old →
     gives (writtenSaid r′) bs′ ≡ writeGives k ds os old → (r ≡ r′) × (bs ≡ bs′)
 no-second-writing k ds os old r r′ bs bs′ = no-second-outcome writtenSaid unwritten written-again

@@ -2,44 +2,43 @@
 use mathlib.Core.Path.{_≡_, refl, sym, ap, _∙_}
 use mathlib.Core.Bool.{Bool, true, false, cond}
 use mathlib.Core.List.{List, [], _∷_, _++_, append-assoc, append-nil}
-use Prim.Native.Nat.{ℕ, zero, suc, _+_, _-_, _≤_, _<_}
+use mathlib.Core.Logic.{⊎-elim}
+use Prim.Native.Nat.{ℕ, zero, suc, _-_, _≤_, _<_}
 use native.Mathlib.Omega.{arith}
-use lib.Dec.{ltb}
 use lib.ListN.{length, getD, drop, drop-of-length-le}
 use lib.Seq.{drop-drop}
-use borrow.Author.Tests.{ltb-false}
 use Rattle.link.specs.Limits.{maxDelay, badDelay, badOffset}
 use Rattle.link.specs.Range.{GoodPlan}
 use Rattle.link.specs.declared.Link.{Link}
 use Rattle.ground.specs.Judging.{first}
 use Rattle.checker.specs.Judging.{clearFaults}
 use Rattle.ground.specs.declared.Judged.the-variants.{Fine}
-use Rattle.ground.specs.Protocol.{unless}
 use Rattle.ground.proofs.Answers.{let-through}
-use Rattle.ground.proofs.Bools.{never}
+use Rattle.ground.proofs.Bools.{never, lt-or-ge}
 use Rattle.planfile.specs.Bytes.{Bytes}
-use Rattle.planfile.specs.Causes.{wrongTag, leftOver}
+use Rattle.planfile.specs.Causes.{wrongTag}
 use Rattle.planfile.specs.Number.{numberBytes}
 use Rattle.planfile.specs.Format.{tag, headerBytes, rowsBytes, planBytes}
-use Rattle.planfile.specs.FileMeaning.{Step, got, stopped, number, header, Row, row, Rows, rows, Meaning, plan, refused}
+use Rattle.planfile.specs.FileMeaning.{Step, got, stopped, number, Head, header, Row, row, Rows, rows, Meaning, plan, refused}
 use Rattle.ground.specs.Words.{begins}
 use Rattle.planfile.specs.FileMeaning.{means, closing, body, meaning}
 use Rattle.ground.proofs.Beginning.{begins-with}
+use Rattle.planfile.proofs.Closing.{some-left, none-left}
 use Rattle.planfile.proofs.Encoding.{drop-bytes, number-only}
 use Rattle.planfile.proofs.RoundTrip.{three}
-use Rattle.planfile.proofs.Accepting.{value-of, place-of, before, Took, took, Headed, headed}
+use Rattle.planfile.proofs.Accepting.{before, Took, took, Headed, headed}
 
 -- the bytes of a number that was got stand at its place
 stands : (bs : List ℕ) (at lo hi v next : ℕ) → Bytes bs → Took bs at lo hi v next → drop at bs ≡ numberBytes v ++ drop next bs
 stands bs at lo hi v next h t =
     number-only (drop at bs) v (t .bytes) (drop-bytes at bs h) (t .reads) .0 ∙ rw (drop-drop (t .bytes) at bs, ← t .ends)
 
-header-stands : (bs : List ℕ) (at : ℕ) (k : Link) (n next : ℕ) → Bytes bs → Headed bs at k n next →
-    drop at bs ≡ headerBytes k n ++ drop next bs
+header-stands : (bs : List ℕ) (at : ℕ) (h : Head) (next : ℕ) → Bytes bs → Headed bs at h next →
+    drop at bs ≡ headerBytes (h .link) (h .rows) ++ drop next bs
 unfolding headerBytes
-header-stands bs at k n next h w =
-    let whole = three (numberBytes (k .period)) (numberBytes (k .size)) (numberBytes n) (drop next bs) in
-    stands bs _ _ _ _ _ h (w .period) ∙ rw (stands bs _ _ _ _ _ h (w .size), stands bs _ _ _ _ _ h (w .rows)) (sym whole)
+header-stands bs at h next b w =
+    let whole = three (numberBytes (h .link .period)) (numberBytes (h .link .size)) (numberBytes (h .rows)) (drop next bs) in
+    stands bs _ _ _ _ _ b (w .period) ∙ rw (stands bs _ _ _ _ _ b (w .size), stands bs _ _ _ _ _ b (w .rows)) (sym whole)
 
 same-row : (bs : List ℕ) (at : ℕ) {d d′ o o′ m m′ : ℕ} → d ≡ d′ → o ≡ o′ → m ≡ m′ →
     drop at bs ≡ numberBytes d ++ (numberBytes o ++ drop m bs) → drop at bs ≡ numberBytes d′ ++ (numberBytes o′ ++ drop m′ bs)
@@ -58,10 +57,11 @@ got-row bs p at r next h e =
     let o = before (number bs (d .place) 0 (p - 1) badOffset) _ _ _ (d .after) in
     let x = took bs at 0 maxDelay badDelay _ _ (d .here) in
     let y = took bs (d .place) 0 (p - 1) badOffset _ _ (o .here) in
-    let d-is : d .value ≡ r .delay = ap (λ (q : Row). q .delay) (value-of (o .after)) in
-    let o-is : o .value ≡ r .offset = ap (λ (q : Row). q .offset) (value-of (o .after)) in
+    let d-is : d .value ≡ r .delay = cc (o .after) in
+    let o-is : o .value ≡ r .offset = cc (o .after) in
+    let ends : o .place ≡ next = cc (o .after) in
     record {
-      stands = same-row bs at d-is o-is (place-of (o .after)) (stands bs _ _ _ _ _ h x ∙ rw (stands bs _ _ _ _ _ h y));
+      stands = same-row bs at d-is o-is ends (stands bs _ _ _ _ _ h x ∙ rw (stands bs _ _ _ _ _ h y));
       delay = rw d-is at (x .high);
       offset = rw o-is at (y .high);
     }
@@ -88,14 +88,15 @@ got-rows : (bs : List ℕ) (p n : ℕ) (xs ys : List ℕ) (at : ℕ) (w : Rows) 
     Got bs p n xs ys at w end
 unfolding rows rowsBytes
 got-rows bs p zero xs ys at w end h e =
+    let ends : at ≡ end = cc in
     record {
       ds = [];
       os = [];
       ds-many = refl;
       os-many = refl;
-      delays = sym (ap (λ (q : Rows). q .delays) (value-of e)) ∙ sym (append-nil xs);
-      offsets = sym (ap (λ (q : Rows). q .offsets) (value-of e)) ∙ sym (append-nil ys);
-      stand = ap (λ (n : ℕ). drop n bs) (place-of e);
+      delays = cc (append-nil xs);
+      offsets = cc (append-nil ys);
+      stand = rw ends;
       low-delays = λ i l. absurd (omega arith);
       low-offsets = λ i l. absurd (omega arith);
     }
@@ -111,9 +112,7 @@ got-rows bs p (suc n) xs ys at w end h e =
       os-many = ap suc (q .os-many);
       delays = q .delays ∙ append-assoc xs (r .value .delay ∷ []) (q .ds);
       offsets = q .offsets ∙ append-assoc ys (r .value .offset ∷ []) (q .os);
-      stand = g .stands
-          ∙ rw (q .stand)
-          (sym (three (numberBytes (r .value .delay)) (numberBytes (r .value .offset)) (rowsBytes (q .ds) (q .os)) (drop end bs)));
+      stand = g .stands ∙ rw (q .stand) (sym whole);
       low-delays = all-cons (λ x. x ≤ maxDelay) (r .value .delay) (q .ds) (g .delay) (q .low-delays);
       low-offsets = all-cons (λ x. x ≤ p - 1) (r .value .offset) (q .os) (g .offset) (q .low-offsets);
     }
@@ -125,7 +124,7 @@ same-plan k e f g = rw (← e, ← f) g
 pub got-good : (bs : List ℕ) (k : Link) (n at : ℕ) (w : Rows) (end : ℕ) → Bytes bs → header bs 4 ≡ got (record { link = k; rows = n }) at →
     rows bs (k .period) n [] [] at ≡ got w end → GoodPlan k (w .delays) (w .offsets)
 got-good bs k n at w end h e f =
-    let a = headed bs 4 k n at e in
+    let a = headed bs 4 (record { link = k; rows = n }) at e in
     let g = got-rows bs (k .period) n [] [] at w end h f in
     let low = a .period .low in
     same-plan k (sym (g .delays)) (sym (g .offsets))
@@ -164,21 +163,20 @@ record Closed (bs : List ℕ) (k k′ : Link) (ds ds′ os os′ : List ℕ) (at
 
 closed : (bs : List ℕ) (k k′ : Link) (ds ds′ os os′ : List ℕ) (at : ℕ) → closing bs k ds os at ≡ plan k′ ds′ os′ →
     Closed bs k k′ ds ds′ os os′ at
-unfolding closing
-closed bs k k′ ds ds′ os os′ at e = go (ltb at (length bs)) refl e
+closed bs k k′ ds ds′ os os′ at e = ⊎-elim some none (lt-or-ge at (length bs))
   where
-    go : (b : Bool) → ltb at (length bs) ≡ b →
-        cond b (refused leftOver at) (unless refused (first (clearFaults k ds os)) (plan k ds os)) ≡ plan k′ ds′ os′ →
-        Closed bs k k′ ds ds′ os os′ at
-    go true b-is f = never (cc)
-    go false b-is f =
-        let w = let-through refused (first (clearFaults k ds os)) (λ n q h. never (cc)) (sym f) in
+    some : at < length bs → Closed bs k k′ ds ds′ os os′ at
+    some h = never (cc (some-left bs k ds os at h))
+
+    none : length bs ≤ at → Closed bs k k′ ds ds′ os os′ at
+    none h =
+        let w = let-through refused (first (clearFaults k ds os)) (λ n q h. never (cc)) (sym e ∙ none-left bs k ds os at h) in
         let same = w .1 in
         let k-is : k ≡ k′ = cc in
         let d-is : ds ≡ ds′ = cc in
         let o-is : os ≡ os′ = cc in
         record {
-          all = ltb-false at (length bs) b-is;
+          all = h;
           fine = rw (← k-is, ← d-is, ← o-is) (w .0);
           same-link = k-is;
           same-delays = d-is;
@@ -201,8 +199,7 @@ body-accepted bs k ds os h t e =
     let d-is : g .ds ≡ ds = sym (g .delays) ∙ c .same-delays in
     let o-is : g .os ≡ os = sym (g .offsets) ∙ c .same-offsets in
     let n-is : a .value .rows ≡ length ds = sym (g .ds-many) ∙ ap length d-is in
-    let head = header-stands bs 4 (a .value .link) (a .value .rows) (a .place) h
-    (headed bs 4 (a .value .link) (a .value .rows) (a .place) (a .here)) in
+    let head = header-stands bs 4 (a .value) (a .place) h (headed bs 4 (a .value) (a .place) (a .here)) in
     let left : rowsBytes (g .ds) (g .os) ++ drop (b .place) bs ≡ rowsBytes ds os = rw (d-is, o-is, drop-of-length-le bs (c .all))
     (append-nil (rowsBytes ds os)) in
     record { bytes = t ∙ rw (head, g .stand, left, c .same-link, n-is); fine = c .fine }

@@ -23,7 +23,7 @@ use Rattle.checker.proofs.Judging.{clear-fine, fine-clear, unclear}
 use Rattle.planfile.specs.Bytes.{Bytes}
 use Rattle.planfile.specs.Causes.{badFile, leftOver}
 use Rattle.planfile.specs.Number.{moreGroups, limit, numberBytes, readNumber}
-use Rattle.planfile.specs.Format.{tag, planBytes}
+use Rattle.planfile.specs.Format.{tag, planBytes, placeOf}
 use Rattle.planfile.specs.FileMeaning.{got, header, Rows, rows, plan, closing, body, meaning}
 use Rattle.planfile.specs.Answer.{IsFileOf, readSaid, Gives, refuses, readGives, delivered}
 use Rattle.planfile.specs.Answer.{WrittenSaid, writtenSaid, refusesWrite, writeFaults, writeGives}
@@ -58,14 +58,21 @@ unfolding readSaid
 refused-so bs oldD oldO n p e {r} {ds} {os} w = no-second-reading bs oldD oldO r (ReadRefused n p) ds oldD os oldO w e
 
 module _ (k : Link) (ds os old : List ℕ) (r : PlanWritten) (new : List ℕ) (w : Writes k ds os old r new) where
-  -- "The writer writes clear plans only"
-  pub writes-clear-only : (n : ℕ) → r ≡ File n → ClearPlan k ds os
+  -- the file in the front of the buffer
+  file-of : (n : ℕ) → r ≡ File n → (ClearPlan k ds os) × (take n new ≡ planBytes k ds os)
   unfolding writtenSaid writeGives writeFaults
-  writes-clear-only n e =
+  file-of n e =
       let t = let-through (keeping refusesWrite old) (first (writeFaults k ds os (length old)))
       (λ m p h. never (cc (ap (λ (o : Outcome WrittenSaid (List ℕ)). o .says .verdict) h)))
       (ap (λ (x : PlanWritten). gives (writtenSaid x) new) (sym e) ∙ w) in
-      fine-clear k ds os (front-fine (clearFaults k ds os) _ (t .0) .0)
+      let clear = fine-clear k ds os (front-fine (clearFaults k ds os) _ (t .0) .0) in
+      let long : n ≡ length (planBytes k ds os) = ap (λ (o : Outcome WrittenSaid (List ℕ)). o .says .bytes) (t .1) in
+      let left : new ≡ onFront (planBytes k ds os) old = ap (λ (o : Outcome WrittenSaid (List ℕ)). o .leaves) (t .1) in
+      (clear, rw (long, left) (take-append-seam (planBytes k ds os) (drop (length (planBytes k ds os)) old)))
+
+  -- "The writer writes clear plans only"
+  pub writes-clear-only : (n : ℕ) → r ≡ File n → ClearPlan k ds os
+  writes-clear-only n e = file-of n e .0
 
   -- and where there is room it does: the plan's bytes go into the front of the buffer
   pub writes-its-bytes : ClearPlan k ds os → length (planBytes k ds os) ≤ length old
@@ -80,19 +87,9 @@ module _ (k : Link) (ds os old : List ℕ) (r : PlanWritten) (new : List ℕ) (w
   unfolding writtenSaid
   not-clear-not-written g n =
       let u = unclear k ds os g n in
-      let same = no-second-writing k ds os old r (WriteRefused notClear (u .0)) new old w (write-fault k ds os old notClear (u .0) (u .1 .judged)) in
+      let fault = write-fault k ds os old notClear (u .0) (u .1 .judged) in
+      let same = no-second-writing k ds os old r (WriteRefused notClear (u .0)) new old w fault in
       (u .1 .earlier, u .0, u .1 .crossing, u .1 .first-one, same .0, same .1)
-
-  -- the file in the front of the buffer
-  file-of : (n : ℕ) → r ≡ File n → (ClearPlan k ds os) × (take n new ≡ planBytes k ds os)
-  unfolding writtenSaid writeGives writeFaults
-  file-of n e =
-      let t = let-through (keeping refusesWrite old) (first (writeFaults k ds os (length old)))
-      (λ m p h. never (cc (ap (λ (o : Outcome WrittenSaid (List ℕ)). o .says .verdict) h)))
-      (ap (λ (x : PlanWritten). gives (writtenSaid x) new) (sym e) ∙ w) in
-      let long : n ≡ length (planBytes k ds os) = ap (λ (o : Outcome WrittenSaid (List ℕ)). o .says .bytes) (t .1) in
-      let left : new ≡ onFront (planBytes k ds os) old = ap (λ (o : Outcome WrittenSaid (List ℕ)). o .leaves) (t .1) in
-      (writes-clear-only n e, rw (long, left) (take-append-seam (planBytes k ds os) (drop (length (planBytes k ds os)) old)))
 
   -- "A plan written to a file reads back the same"
   pub read-what-was-written : (n : ℕ) → r ≡ File n → (oldD oldO : List ℕ) → length ds ≤ length oldD → length os ≤ length oldO
@@ -111,7 +108,9 @@ one-plan k k′ ds ds′ os os′ old old′ n n′ new new′ w w′ e =
     let f = file-of k ds os old (File n) new w n refl in
     let f′ = file-of k′ ds′ os′ old′ (File n′) new′ w′ n′ refl in
     let bytes : planBytes k ds os ≡ planBytes k′ ds′ os′ = sym (f .1) ∙ e ∙ f′ .1 in
-    let same : plan k ds os ≡ plan k′ ds′ os′ = sym (means-its-plan k ds os (f .0)) ∙ ap meaning bytes ∙ means-its-plan k′ ds′ os′ (f′ .0) in
+    let means = means-its-plan k ds os (f .0) in
+    let means′ = means-its-plan k′ ds′ os′ (f′ .0) in
+    let same : plan k ds os ≡ plan k′ ds′ os′ = sym means ∙ ap meaning bytes ∙ means′ in
     (cc, cc, cc)
 
 -- every accepted file is the bytes that writing its plan gives,
@@ -128,7 +127,8 @@ is-file-of bs oldD oldO ds os (Plan k n) h w =
 
 -- and no two files for one plan
 pub one-file : (bs bs′ oldD oldD′ oldO oldO′ : List ℕ) → Bytes bs → Bytes bs′ → (k : Link) (n : ℕ) (ds ds′ os os′ : List ℕ)
-    → Reads bs oldD oldO (Plan k n) ds os → Reads bs′ oldD′ oldO′ (Plan k n) ds′ os′ → take n ds ≡ take n ds′ → take n os ≡ take n os′ → bs ≡ bs′
+    → Reads bs oldD oldO (Plan k n) ds os → Reads bs′ oldD′ oldO′ (Plan k n) ds′ os′ → take n ds ≡ take n ds′ → take n os ≡ take n os′
+    → bs ≡ bs′
 one-file bs bs′ oldD oldD′ oldO oldO′ h h′ k n ds ds′ os os′ w w′ e f =
     is-file-of bs oldD oldO ds os (Plan k n) h w ∙ rw (e, f) (sym (is-file-of bs′ oldD′ oldO′ ds′ os′ (Plan k n) h′ w′))
 
@@ -139,11 +139,11 @@ module _ (k : Link) (ds os : List ℕ) (g : GoodPlan k ds os) (oldD oldO : List 
   unfolding readGives delivered
   bytes-added b bs = refused-so _ oldD oldO badFile _ (rw (added-means k ds os b bs g))
 
-  -- cut anywhere it is 16
+  -- cut anywhere it is 16, at the first byte of the tag or number that was cut
   pub bytes-cut : (m : ℕ) → m < length (planBytes k ds os) → Reads (take m (planBytes k ds os)) oldD oldO r ds′ os′
-      → (p : ℕ) × RefusedAt badFile p r oldD ds′ oldO os′
+      → RefusedAt badFile (placeOf k ds os m) r oldD ds′ oldO os′
   unfolding readGives delivered
-  bytes-cut m h w = let c = cut-anywhere k ds os m g h in (c .0, refused-so _ oldD oldO badFile (c .0) (rw (c .1)) w)
+  bytes-cut m h = refused-so _ oldD oldO badFile _ (rw (cut-anywhere k ds os m g h))
 
 -- A number has one encoding: its bytes read as it, and bytes that read as it, to their end, are its bytes.
 pub one-encoding : (bs : List ℕ) (v : ℕ) → Bytes bs → v < limit moreGroups → (readNumber bs ≡ Value v (length bs)) ↔ (bs ≡ numberBytes v)

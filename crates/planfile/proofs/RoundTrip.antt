@@ -34,13 +34,21 @@ pub record Passed {A : Type 0} (s : Step A) (a : A) (bs rest : List ℕ) : Type 
   pub here : s ≡ got a place
   pub left : drop place bs ≡ rest
 
-pub number-passed : (bs rest : List ℕ) (at lo hi fault v : ℕ) → drop at bs ≡ numberBytes v ++ rest → lo ≤ v → v ≤ hi → v ≤ maxDelay →
+pub behind : (bs xs rest : List ℕ) (at : ℕ) → drop at bs ≡ xs ++ rest → drop (at + length xs) bs ≡ rest
+behind bs xs rest at e = sym (drop-drop (length xs) at bs) ∙ rw e (drop-append-seam xs rest)
+
+pub number-got : (bs rest : List ℕ) (at lo hi fault v : ℕ) → drop at bs ≡ numberBytes v ++ rest → lo ≤ v → v ≤ hi → v ≤ maxDelay →
+    number bs at lo hi fault ≡ got v (at + length (numberBytes v))
+number-got bs rest at lo hi fault v e l h m =
+    sym (number-in bs at lo hi fault v (length (numberBytes v)) (rw e (number-reads v rest (few-groups v m))) l h)
+
+number-passed : (bs rest : List ℕ) (at lo hi fault v : ℕ) → drop at bs ≡ numberBytes v ++ rest → lo ≤ v → v ≤ hi → v ≤ maxDelay →
     Passed (number bs at lo hi fault) v bs rest
 number-passed bs rest at lo hi fault v e l h m =
     record {
       place = at + length (numberBytes v);
-      here = sym (number-in bs at lo hi fault v (length (numberBytes v)) (rw e (number-reads v rest (few-groups v m))) l h);
-      left = sym (drop-drop (length (numberBytes v)) at bs) ∙ rw e (drop-append-seam (numberBytes v) rest);
+      here = number-got bs rest at lo hi fault v e l h m;
+      left = behind bs (numberBytes v) rest at e;
     }
 
 pub header-passed : (bs rest : List ℕ) (at : ℕ) (k : Link) (ds : List ℕ) → GoodTable k ds → drop at bs ≡ headerBytes k (length ds) ++ rest →

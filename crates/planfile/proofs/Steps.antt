@@ -1,30 +1,28 @@
 -- The reader's steps: the tag, a number, the rows. Assumes nothing.
 use mathlib.Core.Path.{_≡_, refl, sym, _∙_}
-use mathlib.Core.Bool.{true, false}
 use mathlib.Core.List.{List, []}
 use Prim.Native.Nat.{ℕ, zero, suc, _+_, _-_, _≤_, _<_}
 use native.Mathlib.Omega.{arith}
 use native.Mathlib.Numerals.{add-one}
 use lib.ListN.{length, take, drop, set, length-drop, length-set}
 use lib.Seq.{take-suc-set}
-use Rattle.ground.proofs.Bools.{clash}
 use Rattle.ground.proofs.Faults.{below, above, inside}
 use Rattle.planfile.specs.Number.{readNumber, formFault}
 use Rattle.planfile.specs.FileMeaning.{got, stopped, ranged, number, row, rows}
 use Rattle.planfile.specs.declared.Number.{Number}
 use Rattle.planfile.specs.declared.Number.the-variants.{Value, Cut, TooLong, Needless}
-use Rattle.planfile.proofs.NoValue.{isValue}
+use Rattle.planfile.proofs.NoValue.{NoValue}
 use Rattle.planfile.proofs.Numbers.{small}
 
-form-stops : (at lo hi fault : ℕ) (q : Number) → isValue q ≡ false → stopped (formFault q) at ≡ ranged q at lo hi fault
-form-stops at lo hi fault (Value v n) h = clash {x = true} refl h
+form-stops : (at lo hi fault : ℕ) (q : Number) → NoValue q → stopped (formFault q) at ≡ ranged q at lo hi fault
+form-stops at lo hi fault (Value v n) h = absurd (h v n refl)
 form-stops at lo hi fault Cut h = refl
 form-stops at lo hi fault TooLong h = refl
 form-stops at lo hi fault Needless h = refl
 
 -- a number: its form, then its range
 module _ (bs : List ℕ) (at lo hi fault : ℕ) where
-  pub number-form : (q : Number) → q ≡ readNumber (drop at bs) → isValue q ≡ false → (n : ℕ) → n ≡ formFault q →
+  pub number-form : (q : Number) → q ≡ readNumber (drop at bs) → NoValue q → (n : ℕ) → n ≡ formFault q →
       stopped n at ≡ number bs at lo hi fault
   unfolding number
   number-form q e h n f = rw (← e, f) (form-stops at lo hi fault q h)

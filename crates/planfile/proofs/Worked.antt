@@ -1,14 +1,15 @@
 -- Document 01's worked file and numbers, by computation, and each promise used once on them. Assumes nothing.
 use mathlib.Core.Path.{_≡_, refl, sym}
-use mathlib.Core.Bool.{true, not}
+use mathlib.Core.Bool.{true, false, not}
 use mathlib.Core.List.{List, [], _∷_, _++_}
-use Prim.Native.Nat.{ℕ, zero, suc, _<_}
+use mathlib.Core.Logic.{⊎-elim}
+use Prim.Native.Nat.{ℕ}
 use native.Mathlib.Omega.{arith}
 use lib.Dec.{ltb}
-use lib.ListN.{getD, take, replicate}
+use lib.ListN.{length, getD, take, replicate}
 use borrow.Author.Tests.{ltb-true, not-false}
 use Rattle.ground.specs.Judging.{first, outside, andThen}
-use Rattle.ground.specs.Least.{least, oneMore}
+use Rattle.ground.specs.Least.{least, oneMore, some}
 use Rattle.ground.specs.Words.{begins}
 use Rattle.ground.proofs.Minimum.{none-has}
 use Rattle.link.specs.Slots.{uses, meets}
@@ -17,13 +18,14 @@ use Rattle.link.specs.Refusal.{linkFaults, rowFaults, offsetFaults}
 use Rattle.link.specs.declared.Link.{Link}
 use Rattle.checker.specs.Answer.{blocked}
 use Rattle.checker.specs.Judging.{clearFaults}
+use Rattle.checker.specs.Order.{FirstCollision}
 use Rattle.checker.specs.declared.Checked.the-variants.{Collision}
 use Rattle.checker.proofs.Judging.{fine-clear}
 use Rattle.checker.proofs.Promises.{collision-is-first}
-use Rattle.checker.proofs.Worked.{collides, not-clear}
+use Rattle.checker.proofs.Worked.{collides, first-named, not-clear}
 use Rattle.planfile.specs.Bytes.{Bytes}
 use Rattle.planfile.specs.Number.{limit, groups, numberBytes, ending, onto, groupsRead, readNumber}
-use Rattle.planfile.specs.Format.{tag, headerBytes, rowsBytes, planBytes}
+use Rattle.planfile.specs.Format.{tag, headerBytes, rowsBytes, planBytes, rowsParts, numbersParts, planParts, firstByte, placeOf}
 use Rattle.planfile.specs.FileMeaning.{got, number, header, row, rows, plan, meaning}
 use Rattle.planfile.specs.declared.Number.the-variants.{Needless}
 use Rattle.planfile.specs.declared.PlanRead.{PlanRead}
@@ -62,18 +64,14 @@ pub largest-delay : numberBytes 16777215 ≡ 0xFF ∷ 0xFF ∷ 0xFF ∷ 0x07 ∷
 unfolding numberBytes groups
 largest-delay = refl
 
+-- a list with no element that is no byte
+are-bytes : (bs : List ℕ) → some (λ j. not (ltb (getD bs j 0) 256)) (length bs) ≡ false → Bytes bs
+are-bytes bs e = record { byte = λ i h. ltb-true _ _ (not-false _ (none-has (λ j. not (ltb (getD bs j 0) 256)) (length bs) e i h)) }
+
 -- "Number AC 82 00: 16."
 pub encoded-once : numberBytes 300 ≡ 0xAC ∷ 0x02 ∷ []
-unfolding readNumber groupsRead onto ending limit
-encoded-once = sym (one-encoding (0xAC ∷ 0x02 ∷ []) 300 two-bytes (omega arith) .0 refl)
-  where
-    two-bytes : Bytes (0xAC ∷ 0x02 ∷ [])
-    two-bytes = record { byte = λ i h. low i h }
-      where
-        low : (i : ℕ) → i < 2 → getD (0xAC ∷ 0x02 ∷ []) i 0 < 256
-        low zero h = omega arith
-        low (suc zero) h = omega arith
-        low (suc (suc i)) h = absurd (omega arith)
+unfolding readNumber groupsRead onto ending limit least oneMore
+encoded-once = sym (one-encoding (0xAC ∷ 0x02 ∷ []) 300 (are-bytes (0xAC ∷ 0x02 ∷ []) refl) (omega arith) .0 refl)
 
 pub needless-group : readNumber (0xAC ∷ 0x82 ∷ 0x00 ∷ []) ≡ Needless
 unfolding readNumber groupsRead onto ending
@@ -83,10 +81,9 @@ pub first-table-is-clear : ClearPlan firstLink delays offsets
 unfolding clearFaults blocked free hits either start second meets uses least oneMore first outside andThen linkFaults rowFaults offsetFaults
 first-table-is-clear = fine-clear firstLink delays offsets refl
 
--- each element is a byte
-are-bytes : Bytes file
+file-bytes : Bytes file
 unfolding least oneMore
-are-bytes = record { byte = λ i h. ltb-true _ _ (not-false _ (none-has (λ j. not (ltb (getD file j 0) 256)) 13 refl i h)) }
+file-bytes = are-bytes file refl
 
 pub file-means-the-first-table : meaning file ≡ plan firstLink delays offsets
 file-means-the-first-table = rw file-of-the-first-table at (means-its-plan firstLink delays offsets first-table-is-clear)
@@ -121,21 +118,47 @@ module _ (r : PlanWritten) (new : List ℕ) (w : Writes firstLink delays offsets
 -- whatever the reader answers on the file, with room for the rows
 module _ (ds os : List ℕ) (w : Reads file eights eights (Plan firstLink 3) ds os) where
   pub the-file-is-written : AcceptedFile file eights eights firstLink 3 ds os
-  the-file-is-written = accepted-is-written file eights eights are-bytes firstLink 3 ds os w
+  the-file-is-written = accepted-is-written file eights eights file-bytes firstLink 3 ds os w
 
   pub the-only-file : (bs ds′ os′ : List ℕ) → Bytes bs → Reads bs eights eights (Plan firstLink 3) ds′ os′
       → take 3 ds ≡ take 3 ds′ → take 3 os ≡ take 3 os′ → file ≡ bs
   the-only-file bs ds′ os′ h v =
-      one-file file bs eights eights eights eights are-bytes h firstLink 3 ds ds′ os os′ w v
+      one-file file bs eights eights eights eights file-bytes h firstLink 3 ds ds′ os os′ w v
 
 pub one-byte-added : (r : PlanRead) (ds os : List ℕ) → Reads (file ++ (0 ∷ [])) [] [] r ds os → RefusedAt 16 13 r [] ds [] os
 one-byte-added r ds os =
     rw file-of-the-first-table at (bytes-added firstLink delays offsets (first-table-is-clear .0) [] [] r ds os 0 [])
 
-pub last-byte-cut : (r : PlanRead) (ds os : List ℕ) → Reads (take 12 file) [] [] r ds os → (p : ℕ) × RefusedAt 16 p r [] ds [] os
+last-byte : placeOf firstLink delays offsets 12 ≡ 12
+unfolding firstByte planParts numbersParts rowsParts numberBytes groups
+last-byte = refl
+
+pub last-byte-cut : (r : PlanRead) (ds os : List ℕ) → Reads (take 12 file) [] [] r ds os → RefusedAt 16 12 r [] ds [] os
 last-byte-cut r ds os =
-    rw file-of-the-first-table at
+    rw (file-of-the-first-table, last-byte) at
     (bytes-cut firstLink delays offsets (first-table-is-clear .0) [] [] r ds os 12 (rw file-of-the-first-table (omega arith)))
+
+-- period 300, size 2 and one row, cut inside the period's two bytes: 16 at the first of them
+abbrev long-link : Link
+long-link = record { period = 300; size = 2 }
+
+long-is-clear : ClearPlan long-link (0 ∷ []) (0 ∷ [])
+unfolding clearFaults blocked free hits either start second meets uses least oneMore first outside andThen linkFaults rowFaults offsetFaults
+long-is-clear = fine-clear long-link (0 ∷ []) (0 ∷ []) refl
+
+long-file : planBytes long-link (0 ∷ []) (0 ∷ []) ≡ 0x50 ∷ 0x4D ∷ 0x41 ∷ 0x01 ∷ 0xAC ∷ 0x02 ∷ 0x02 ∷ 0x01 ∷ 0x00 ∷ 0x00 ∷ []
+unfolding planBytes headerBytes rowsBytes numberBytes groups
+long-file = refl
+
+in-the-period : placeOf long-link (0 ∷ []) (0 ∷ []) 5 ≡ 4
+unfolding firstByte planParts numbersParts rowsParts numberBytes groups
+in-the-period = refl
+
+pub period-cut : (r : PlanRead) (ds os : List ℕ) → Reads (0x50 ∷ 0x4D ∷ 0x41 ∷ 0x01 ∷ 0xAC ∷ []) [] [] r ds os
+    → RefusedAt 16 4 r [] ds [] os
+period-cut r ds os =
+    rw (long-file, in-the-period) at
+    (bytes-cut long-link (0 ∷ []) (0 ∷ []) (long-is-clear .0) [] [] r ds os 5 (rw long-file (omega arith)))
 
 -- "First table, offsets 0 2 4": not clear
 abbrev others : List ℕ
@@ -144,11 +167,21 @@ others = 0 ∷ 2 ∷ 4 ∷ []
 abbrev unclear-file : List ℕ
 unclear-file = 0x50 ∷ 0x4D ∷ 0x41 ∷ 0x01 ∷ 0x0A ∷ 0x02 ∷ 0x03 ∷ 0x00 ∷ 0x00 ∷ 0x03 ∷ 0x02 ∷ 0x07 ∷ 0x04 ∷ []
 
-pub not-written : (r : PlanWritten) (new : List ℕ) → Writes firstLink delays others buffer r new → (j : ℕ) × (r ≡ Refused 18 j)
+-- its first collision has row 2 as the later one
+later-row : {i j c : ℕ} → FirstCollision 10 2 delays others i j c → 2 ≡ j
+later-row f =
+    ⊎-elim (λ h. ⊎-elim (λ k. absurd (omega arith)) (λ k. absurd (omega (arith, k .0))) (f .least 0 2 _ (first-named .collides)))
+    (λ h. h .0) (first-named .least _ _ _ (f .collides))
+
+pub not-written : (r : PlanWritten) (new : List ℕ) → Writes firstLink delays others buffer r new → (r ≡ Refused 18 2) × (new ≡ buffer)
 not-written r new w =
     let good = collision-is-first firstLink delays others (Collision 0 2 2) collides 0 2 2 refl .0 in
     let v = not-clear-not-written firstLink delays others buffer r new w good not-clear in
-    (v .1, v .4)
+    (rw (later-row (v .3)) (v .4), v .5)
+
+unclear-bytes : Bytes unclear-file
+unfolding least oneMore
+unclear-bytes = are-bytes unclear-file refl
 
 head-read : header unclear-file 4 ≡ got (record { link = firstLink; rows = 3 }) 7
 unfolding header number readNumber groupsRead onto ending outside
@@ -162,8 +195,8 @@ with-tag : begins tag unclear-file ≡ true
 unfolding begins
 with-tag = refl
 
-pub not-read : Bytes unclear-file → (r : PlanRead) (ds os : List ℕ) → Reads unclear-file [] [] r ds os → (j : ℕ) × RefusedAt 18 j r [] ds [] os
-not-read b r ds os v =
+pub not-read : (r : PlanRead) (ds os : List ℕ) → Reads unclear-file [] [] r ds os → RefusedAt 18 2 r [] ds [] os
+not-read r ds os v =
     let w = after-the-last-number unclear-file firstLink 3 7 (record { delays = delays; offsets = others }) 13 with-tag head-read rows-read
-    [] [] r ds os v b (omega arith) not-clear in
-    (w .1, w .4)
+    [] [] r ds os v unclear-bytes (omega arith) not-clear in
+    rw (later-row (w .3)) (w .4)

@@ -6,7 +6,7 @@ use crate::causes::TOO_LONG;
 ghost use mathlib.Core.Path.{_≡_};
 ghost use Prim.Native.Nat.{_+_, _≤_, _<_};
 ghost use lib.ListN.{length, drop};
-ghost use Rattle.planfile.specs.Format.{Put};
+ghost use Rattle.ground.specs.Lent.{Adds};
 ghost use Rattle.planfile.specs.Number.{moreGroups, limit, groups, groupsRead, numberBytes, readNumber, formFault};
 
 pub(crate) const GROUP: u32 = 128;
@@ -76,7 +76,7 @@ pub(crate) fn form_fault(number: Number) -> u32
 // Writes the groups of a number from a place on, and answers the place after them.
 fn put_groups(file: &mut [u8], at: usize, value: u32, more: usize) -> usize
     requires { ⌜ (at + more < length (now file)) × (value < limit more) ⌝ }
-    ensures { λ r. ⌜ Put (now (file .entry)) at (groups more value) (now (file .exit)) r ⌝ }
+    ensures { λ r. ⌜ Adds (now (file .entry)) at (groups more value) r (now (file .exit)) ⌝ }
 {
     if value < GROUP {
         file[at] = value as u8;
@@ -89,7 +89,7 @@ fn put_groups(file: &mut [u8], at: usize, value: u32, more: usize) -> usize
 // Writes a number at a place, and answers the place after it.
 pub(crate) fn put_number(file: &mut [u8], at: usize, value: u32) -> usize
     requires { ⌜ (at + moreGroups < length (now file)) × (value < limit moreGroups) ⌝ }
-    ensures { λ r. ⌜ Put (now (file .entry)) at (numberBytes value) (now (file .exit)) r ⌝ }
+    ensures { λ r. ⌜ Adds (now (file .entry)) at (numberBytes value) r (now (file .exit)) ⌝ }
 {
     put_groups(file, at, value, MORE_GROUPS)
 }

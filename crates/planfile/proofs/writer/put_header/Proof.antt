@@ -13,7 +13,7 @@ put-number-requires-2 : tie.Need-put-number-requires-2
 put-number-requires-2 c κs =
     let w = c .before .before .before in
     let u = w .before .before .before in
-    (omega (arith, w .put-number .ensures .0, w .put-number .kept .0, length-number (u .args .link .period)), few-groups _ (omega arith))
+    (omega (arith, w .put-number .ensures .end, w .put-number .kept .0, length-number (u .args .link .period)), few-groups _ (omega arith))
 
 cast-put-number : tie.Need-cast-put-number
 cast-put-number c = search needs
@@ -25,10 +25,10 @@ put-number-requires-3 c κs =
     let u = w .before .before .before in (
       omega (
         arith,
-        w .put-number .ensures .0,
+        w .put-number .ensures .end,
         w .put-number .kept .0,
         length-number (u .args .link .period),
-        v .put-number2 .ensures .0,
+        v .put-number2 .ensures .end,
         v .put-number2 .kept .0,
         length-number (u .args .link .size),
       ),
@@ -40,10 +40,11 @@ same-length c = search needs
 
 returns : tie.Need-returns
 returns c =
-    let v = c .before .before in
-    let w = v .before .before .before .before in
-    header-put _ _ _ _ _ _ _ _ _ _ (w .before .before .before .before .put-number .ensures) (w .put-number2 .ensures)
-    (v .put-number3 .ensures)
+    let third = c .before .before .put-number3 in
+    let at-second = c .before .before .before .before .before .before in
+    let at-first = at-second .before .before .before .before in
+    header-put _ _ _ _ _ _ _ _ _ _ (at-first .before .before .before .pre .0) (at-first .put-number .ensures)
+    (at-second .put-number2 .ensures) (third .ensures)
 
 pub put-header-spec : {M : Type 1} → statement M
 put-header-spec =

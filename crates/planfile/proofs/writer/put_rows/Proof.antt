@@ -47,7 +47,7 @@ put-number-requires-2 c κs =
         l .loop .inv .room,
         u .pre .0 .rows-high,
         u .pre .1,
-        w .put-number .ensures .0,
+        w .put-number .ensures .end,
         w .put-number .kept .0,
         length-number (getD (u .args .delays .now) (l .loop .j) 0),
       ),
@@ -66,7 +66,7 @@ loop-again c =
     let w = v .before .before .before .before .before in
     let l = w .before .before .before .before in
     let u = l .before .before .before .before in
-    writing-more _ _ _ _ _ _ _ (l .loop .inv) _ _ _ _ (omega arith) (u .pre .0 .as-many) (w .put-number .kept .0) (v .put-number2 .kept .0)
+    writing-more _ _ _ _ _ _ _ (l .loop .inv) _ _ _ _ (omega arith) (u .pre .0) (u .pre .1)
     (w .put-number .ensures) (v .put-number2 .ensures)
 
 same-length : tie.Need-same-length Inv-loop μ-loop
@@ -74,9 +74,7 @@ same-length c = search needs
 
 returns : tie.Need-returns Inv-loop μ-loop
 returns c =
-    let l = c .before in
-    let u = l .before .before .before .before in
-    writing-done _ _ _ _ _ _ _ (l .loop .inv) (c .loop-test .left) (u .pre .0 .rows-high) (u .pre .1)
+    writing-done _ _ _ _ _ _ _ (c .before .loop .inv) (c .loop-test .left)
 
 pub put-rows-spec : {M : Type 1} → statement M
 put-rows-spec =
