@@ -47,6 +47,10 @@ module _ {M : Type 1} {𝓤 : URA M} {H : Heap 𝓤} {A : Atoms 𝓤} {K : Type 
       from t (subst (λ (sp : Spot 𝓤 H). Walks K W Γ E sp (field 0 ∷ deref τ ∷ []) (τ, b′, o′)) (sym f)
       (fld t refl (hop t (inside t n 0 e refl) (stop t))))
 
+  -- what is computed is the value v
+  pub being : K → {rv : RValue} {u v : Val} → u ≡ v → Rv K W Γ E rv u → Rv K W Γ E rv v
+  being t {rv} e r = subst (Rv K W Γ E rv) e r
+
   module _ {C : Calls 𝓤 H} {Λ : Loops 𝓤 H} {p : Post 𝓤 H} {i : ℕ} {rest : Body} {v : Val} {Γ′ : List (Item 𝓤)} where
     pub sets : K → {rv : RValue} → Rv K W Γ E rv v → Writes K W Γ (spotOf 𝓤 H E i .0) (spotOf 𝓤 H E i .1) (spotOf 𝓤 H E i .2) v Γ′
         → Step K W Γ′ (runs C Λ E rest p) Γ (runs C Λ E (seq (assign (place i []) rv) rest) p)
