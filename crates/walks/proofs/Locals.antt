@@ -84,7 +84,8 @@ module _ {M : Type 1} (𝓤 : URA M) (H : Heap 𝓤) (A : Atoms 𝓤) (W : Given
   vacant e none = id⊢ 𝓤 _
   vacant e (some v) = W .laws .at-room (e .0) (e .1) zero v
 
-  emptied : (E : List (Ty × ℕ)) (os : List (Option Val)) (Γ : List (Item 𝓤)) → ent 𝓤 (⋆ 𝓤 H A (Slots 𝓤 E os Γ)) (sep 𝓤 (rooms E) (⋆ 𝓤 H A Γ))
+  emptied : (E : List (Ty × ℕ)) (os : List (Option Val)) (Γ : List (Item 𝓤))
+      → ent 𝓤 (⋆ 𝓤 H A (Slots 𝓤 E os Γ)) (sep 𝓤 (rooms E) (⋆ 𝓤 H A Γ))
   emptied [] os Γ = emp∗ 𝓤 _
   emptied (e ∷ E) os Γ =
       via 𝓤 _ (emptied E (tail os) (cell ∷ dies ∷ Γ)) (
