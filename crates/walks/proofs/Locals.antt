@@ -109,11 +109,11 @@ module _ {M : Type 1} {𝓤 : URA M} {H : Heap 𝓤} {A : Atoms 𝓤} {K : Type 
   alloc-all t [] k = alloc0 t $ k tt
   alloc-all t (local τ h ∷ ls) k = alloc1 t (λ b. alloc-all t ls (λ bs. k (b, bs)))
 
-  -- the locals stand behind the first n entries
-  pub free-some : {Γ : List (Item 𝓤)} → K → (n : ℕ) {E : Env 𝓤 H} {g : Goal 𝓤 H} (os : List (Option Val))
+  -- the locals hold os, and stand behind the first n entries
+  pub free-slots : {Γ : List (Item 𝓤)} → K → (n : ℕ) {E : Env 𝓤 H} {g : Goal 𝓤 H} (os : List (Option Val))
       → Γ ≡ front 𝓤 n Γ ++ Slots 𝓤 E os (behind 𝓤 (n + 2 * length E) Γ)
       → Step K W (front 𝓤 n Γ ++ behind 𝓤 (n + 2 * length E) Γ) g Γ (frees E g)
-  free-some {Γ} t n {E} {g} os e =
+  free-slots {Γ} t n {E} {g} os e =
       step (λ s. record { prf = subst (λ (Δ : List (Item 𝓤)). ent 𝓤 (⋆ 𝓤 H A Δ) (release 𝓤 H E (aim 𝓤 H g))) (sym e) (go s) })
     where
       go : Seq K W (front 𝓤 n Γ ++ behind 𝓤 (n + 2 * length E) Γ) g
@@ -131,4 +131,4 @@ module _ {M : Type 1} {𝓤 : URA M} {H : Heap 𝓤} {A : Atoms 𝓤} {K : Type 
   pub free-all : {Γ : List (Item 𝓤)} → K → (n : ℕ) {E : Env 𝓤 H} {g : Goal 𝓤 H} (vs : Held 𝓤 E)
       → Γ ≡ front 𝓤 n Γ ++ Cells 𝓤 E vs (behind 𝓤 (n + 2 * length E) Γ)
       → Step K W (front 𝓤 n Γ ++ behind 𝓤 (n + 2 * length E) Γ) g Γ (frees E g)
-  free-all t n {E} vs e = free-some t n (full 𝓤 E vs) e
+  free-all t n {E} vs e = free-slots t n (full 𝓤 E vs) e

@@ -37,6 +37,14 @@ module _ {M : Type 1} (𝓤 : URA M) (H : Heap 𝓤) (A : Atoms 𝓤) (T : Ended
   enters : Brought → ent 𝓤 (emp 𝓤) (Callee 𝓤 H A T c .pre y)
   enters b = and 𝓤 (and 𝓤 (b .lives) (owns-make 𝓤 H A Params (Ises Params) (b .makes) (y .0 .3) (y .0 .4) (b .are))) (b .asks)
 
+-- the four, in that order
+pub brought : {M : Type 1} {𝓤 : URA M} {H : Heap 𝓤} {A : Atoms 𝓤} {T : Ended} {c : Clauses 𝓤 T} {y : Callee 𝓤 H A T c .Ghost}
+    → ent 𝓤 (emp 𝓤) (alive 𝓤 H A (T .signature) (y .0 .0) (y .0 .1))
+    → Makess 𝓤 H A (Params 𝓤 H A T c y) (Ises (Params 𝓤 H A T c y))
+    → Are (Params 𝓤 H A T c y) (Ises (Params 𝓤 H A T c y)) (y .0 .3) (y .0 .4)
+    → ent 𝓤 (emp 𝓤) (c (y .0 .0) (y .0 .3) .requires (y .1)) → Brought 𝓤 H A T c y
+brought lives makes are asks = record { lives = lives; makes = makes; are = are; asks = asks }
+
 module _ {M : Type 1} {𝓤 : URA M} {H : Heap 𝓤} {A : Atoms 𝓤} {K : Type 0} {W : Given 𝓤 H A} {Γ : List (Item 𝓤)} {E : Env 𝓤 H}
     {C : Calls 𝓤 H} {Λ : Loops 𝓤 H} {p : Post 𝓤 H} {f : Name} {xs : List Operand} {d : Place} {rest : Body} where
   pub calls-plain : K → FmC 𝓤 H (W .laws) C → (T : Ended) (c : Clauses 𝓤 T) → Triple 𝓤 (C f) (Callee 𝓤 H A T c)

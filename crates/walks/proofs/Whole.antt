@@ -1,5 +1,6 @@
 -- The rules of a walk at the places it mostly has: a whole local is read, set, and given a call's result; of a local that is a
--- struct or a slice one field is read, and what a slice's pointer points at is found. Assumes nothing.
+-- struct or a slice one field is read, and what a slice's pointer points at is found. What is computed is given the form in which the
+-- walk goes on with it (`being`). Assumes nothing.
 use mathlib.Core.Path.{_≡_, refl, sym, subst}
 use mathlib.Core.Option.{some}
 use mathlib.Core.List.{List, [], _∷_}
