@@ -24,6 +24,7 @@
 struct side {
     void (*check)(uint32_t, uint32_t, const uint32_t *, size_t, const uint32_t *, size_t,
                   seamwhisk_checked *);
+    void (*check_records)(uint32_t, uint32_t, const seamwhisk_record *, size_t, seamwhisk_checked *);
     void (*first_fit)(uint32_t, uint32_t, const uint32_t *, size_t, uint32_t *, size_t,
                       seamwhisk_planned *);
     void (*meta_offset)(uint32_t, uint32_t, const uint32_t *, size_t, uint32_t *, size_t,
@@ -40,17 +41,18 @@ struct side {
                    seamwhisk_reported *);
 };
 
-static const struct side baseline = {rules_check,     rules_first_fit,  rules_meta_offset,
-                                     rules_exact,     rules_ceiling,    rules_read_table,
-                                     rules_write_plan, rules_read_plan, rules_report};
+static const struct side baseline = {
+    rules_check,      rules_check_records, rules_first_fit,  rules_meta_offset, rules_exact,
+    rules_ceiling,    rules_read_table,    rules_write_plan, rules_read_plan,   rules_report};
 static const struct side seamwhisk = {
-    seamwhisk_check,      seamwhisk_first_fit,  seamwhisk_meta_offset,
-    seamwhisk_exact,      seamwhisk_ceiling,    seamwhisk_read_table,
-    seamwhisk_write_plan, seamwhisk_read_plan, seamwhisk_report};
+    seamwhisk_check,       seamwhisk_check_records, seamwhisk_first_fit,  seamwhisk_meta_offset,
+    seamwhisk_exact,       seamwhisk_ceiling,       seamwhisk_read_table, seamwhisk_write_plan,
+    seamwhisk_read_plan,   seamwhisk_report};
 
 /* What the workloads are run on; made once, the same for both sides. */
 static const uint32_t eight_delays[8] = {7, 16, 16, 16, 16, 16, 16, 16};
 static uint32_t delays[ROWS], plan[ROWS];
+static seamwhisk_record records[ROWS];
 static uint8_t text[SEAMWHISK_MAX_TEXT], file[SEAMWHISK_MAX_FILE];
 static size_t text_length, file_length;
 
@@ -101,6 +103,11 @@ static void check(const struct side *side, struct result *r)
     side->check(PERIOD, LIGHT, delays, ROWS, plan, ROWS, &r->answer.checked);
 }
 
+static void check_records(const struct side *side, struct result *r)
+{
+    side->check_records(PERIOD, LIGHT, records, ROWS, &r->answer.checked);
+}
+
 static void report(const struct side *side, struct result *r)
 {
     side->report(PERIOD, LIGHT, delays, ROWS, plan, ROWS, &r->answer.reported);
@@ -138,6 +145,7 @@ static const struct workload workloads[] = {
     {"Meta-Offset, size 500: a plan", 2, {0, 0}, meta_offset_light},
     {"Meta-Offset, size 15,000: 13 at row 42", 2, {13, 42}, meta_offset_full},
     {"checker, size 500: clear", 5, {0, 0, 0, 0, 0}, check},
+    {"checker over records, size 500: clear", 5, {0, 0, 0, 0, 0}, check_records},
     {"stretch report, size 500", 3, {0, 0, PERIOD - ROWS * LIGHT}, report},
     {"text table, read", 5, {0, 0, PERIOD, LIGHT, ROWS}, read_table},
     {"plan file, written", 2, {0, 0}, write_plan},
@@ -160,6 +168,8 @@ static bool make_inputs(void)
     seamwhisk_planned planned;
     seamwhisk_written written;
     rules_first_fit(PERIOD, LIGHT, delays, ROWS, plan, ROWS, &planned);
+    for (size_t row = 0; row < ROWS; row++)
+        records[row] = (seamwhisk_record){delays[row], plan[row]};
     rules_write_plan(PERIOD, LIGHT, delays, ROWS, plan, ROWS, file, sizeof file, &written);
     file_length = (size_t)written.length;
     return planned.number == 0 && written.number == 0;
