@@ -1,9 +1,11 @@
 -- Document 01's program example, and the damaged one, from input bytes to output bytes. Assumes nothing.
-use mathlib.Core.Path.{_≡_, refl}
+use mathlib.Core.Path.{_≡_, refl, ap, _∙_}
 use mathlib.Core.List.{List, [], _∷_}
-use Prim.Native.Nat.{ℕ}
+use Prim.Native.Nat.{ℕ, _+_, _≤_}
+use lib.ListN.{length}
 use Rattle.ground.specs.Count.{countIn}
 use Rattle.ground.specs.Least.{oneMore, least}
+use Rattle.ground.specs.Lent.{Adds}
 use Rattle.ground.specs.Series.{from}
 use Rattle.ground.specs.Words.{begins}
 use Rattle.ground.specs.Judging.{first, outside, andThen}
@@ -22,6 +24,7 @@ use Rattle.search.specs.Builds as builds
 use Rattle.search.specs.Ceilings as ceilings
 use Rattle.search.specs.Steps as steps
 use Rattle.console.specs.Printed.{offsetLines, foundLines, refusedLine, planned, printed}
+use Rattle.console.proofs.Promises.{no-second, printed-inside}
 
 -- `pma 1`, `10 2`, `0`, `3`, `7`, `end 3`, one a line; and the same with the byte between 3 and 7 lost
 abbrev whole : List ℕ
@@ -71,3 +74,11 @@ unfolding printed reader.reading reader.accepted reader.delaysOf faults.readFaul
     decimal.allDigits decimal.leadingZero decimal.isDecimal decimal.valueFrom first outside andThen linkFaults least oneMore
     refusedLine digitsIn
 refuses = refl
+
+-- whatever the function answers on the first, these 14 bytes stand in front of the buffer, and it answers 14
+pub found-bytes : (old : List ℕ) (r : ℕ) (new : List ℕ) → Adds old 0 (printed whole) r new → (r ≡ 14) × (r ≤ length new)
+found-bytes old r new a = (a .end ∙ ap (λ (xs : List ℕ). 0 + length xs) finds, printed-inside whole old r new a)
+
+pub only-these : (old : List ℕ) (r s : ℕ) (new other : List ℕ) → Adds old 0 (printed damaged) r new → Adds old 0 (printed damaged) s other
+    → (r ≡ s) × (new ≡ other)
+only-these = no-second damaged

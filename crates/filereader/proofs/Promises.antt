@@ -55,3 +55,7 @@ unfolding taken
 worked-300 d q b e w =
     let read : taken (q .taken) ≡ got 300 2 = w .0 ∙ rw (b, e) three-hundred in
     (no-second taken untaken taken-again read refl, w .2 ∙ ap (after (d .at)) read)
+
+pub worked-once : (d : FileReader) (q q′ : NumberRead) → now (d .bytes) ≡ 0xAC ∷ 0x02 ∷ 0x01 ∷ [] → d .at ≡ 0
+    → ReadsNumber d 1 maxPeriod badPeriod q → ReadsNumber d 1 maxPeriod badPeriod q′ → (q ≡ q′) × (q′ .taken ≡ Value 300 2)
+worked-once d q q′ b e w w′ = (no-second-number d 1 maxPeriod badPeriod q q′ w w′, worked-300 d q′ b e w′ .0)

@@ -35,7 +35,7 @@ use Rattle.planfile.specs.declared.PlanWritten.the-variants.{File, Refus
 use Rattle.planfile.proofs.Accepted.{ClearPlan, means-its-plan, AcceptedFile}
 use Rattle.planfile.proofs.Promises.{Writes, Reads, RefusedAt, writes-clear-only, writes-its-bytes, not-clear-not-written}
 use Rattle.planfile.proofs.Promises.{read-what-was-written, one-plan, accepted-is-written, one-file, bytes-added, bytes-cut}
-use Rattle.planfile.proofs.Promises.{one-encoding, after-the-last-number}
+use Rattle.planfile.proofs.Promises.{one-encoding, left-over-first, after-the-last-number}
 
 -- "10, 2, (0 3 7)" at "0 2 5"
 abbrev pub firstLink : Link
@@ -200,3 +200,10 @@ not-read r ds os v =
     let w = after-the-last-number unclear-file firstLink 3 7 (record { delays = delays; offsets = others }) 13 with-tag head-read rows-read
     [] [] r ds os v unclear-bytes (omega arith) not-clear in
     rw (later-row (w .3)) (w .4)
+
+-- and with a byte more it is 16, for that byte comes before 18
+pub left-over-before-18 : (r : PlanRead) (ds os : List ℕ) → Reads (unclear-file ++ (0 ∷ [])) [] [] r ds os → RefusedAt 16 13 r [] ds [] os
+unfolding begins header rows row number readNumber groupsRead onto ending outside
+left-over-before-18 r ds os v =
+    left-over-first (unclear-file ++ (0 ∷ [])) firstLink 3 7 (record { delays = delays; offsets = others }) 13 refl refl refl
+    [] [] r ds os v (omega arith)

@@ -24,7 +24,7 @@ use Rattle.report.specs.declared.Stretch.{Stretch}
 use Rattle.report.specs.declared.Reported.{Reported}
 use Rattle.report.specs.declared.Reported.the-variants.{Stretches, Refused}
 use Rattle.report.proofs.Promises.{of, no-second, reports-exactly, not-clear-refused}
-use Rattle.report.proofs.Promises.{summed, left-over, stretches-counted, none-is-wider, one-is-as-wide, full}
+use Rattle.report.proofs.Promises.{counted, summed, left-over, stretches-counted, none-is-wider, one-is-as-wide, full}
 
 abbrev link : ℕ → ℕ → Link
 link p t = record { period = p; size = t }
@@ -65,6 +65,9 @@ pub is-clear : GoodPlan (link 5 2) ds os × Clear 5 2 ds os
 is-clear = reports-exactly (link 5 2) ds os (Stretches free-3 free-3) (table .both-ends) .0 (free-3, free-3, refl)
 
 module _ (c : Crossing) where
+  pub three-counted : of c free-3 free-3 .free ≡ count (isFree 5 2 ds os c) 5
+  three-counted = counted (link 5 2) ds os (Stretches free-3 free-3) (table .both-ends) _ _ refl c
+
   pub adds-up : of c free-3 free-3 .free ≡ totalOf (runs (isFree 5 2 ds os c) 5)
   adds-up = summed (link 5 2) ds os (Stretches free-3 free-3) (table .both-ends) _ _ refl c
 
