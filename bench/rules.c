@@ -496,25 +496,27 @@ struct file {
     size_t length, next; /* next: the first byte of the next number */
 };
 
-/* The next number: 16 for its form, then its own refusal if it is not least .. most. */
+/* The next number: 19, 20 or 21 for its form, then its own refusal if it is not least .. most. */
 static struct fault read_number(struct file *file, uint32_t least, uint32_t most, uint64_t refusal,
                                 uint32_t *number)
 {
     size_t place = file->next;
     uint32_t value = 0;
-    for (unsigned group = 0; group < 4 && file->next < file->length; group++) {
+    for (unsigned group = 0; group < 4; group++) {
+        if (file->next >= file->length)
+            return refuse(SEAMWHISK_FILE_CUT, place);
         uint8_t byte = file->bytes[file->next++];
         value |= (uint32_t)(byte & 0x7F) << (7 * group);
         if (byte >= 0x80)
             continue;
         if (byte == 0 && group > 0)
-            break;
+            return refuse(SEAMWHISK_FILE_GROUP, place);
         if (value < least || value > most)
             return refuse(refusal, place);
         *number = value;
         return no_fault;
     }
-    return refuse(SEAMWHISK_FILE_FORM, place);
+    return refuse(SEAMWHISK_FILE_LONG, place);
 }
 
 static struct fault read_numbers(struct file *file, struct plan *plan)
@@ -535,17 +537,21 @@ static struct fault read_numbers(struct file *file, struct plan *plan)
     return fault;
 }
 
-/* 16, 5, 6, 8, 7, 17, 16, 18 */
+/* 16, 19; each number's 19, 20, 21 and 5, 6, 8, 7, 17; 22, 18 */
 static struct fault read_file(struct file *file, struct plan *plan)
 {
-    if (file->length < sizeof tag || memcmp(file->bytes, tag, sizeof tag) != 0)
-        return refuse(SEAMWHISK_FILE_FORM, 0);
+    for (size_t at = 0; at < sizeof tag; at++) {
+        if (at >= file->length)
+            return refuse(SEAMWHISK_FILE_CUT, 0);
+        if (file->bytes[at] != tag[at])
+            return refuse(SEAMWHISK_FILE_TAG, 0);
+    }
     file->next = sizeof tag;
     struct fault fault = read_numbers(file, plan);
     if (fault.number != 0)
         return fault;
     if (file->next < file->length)
-        return refuse(SEAMWHISK_FILE_FORM, file->next);
+        return refuse(SEAMWHISK_FILE_AFTER, file->next);
     return judge_clear(plan->period, plan->size, plan->delays, plan->rows, plan->offsets);
 }
 

@@ -60,11 +60,19 @@ enum seamwhisk_refusal {
     SEAMWHISK_NO_OFFSET = 13,    /* quick planner: no offset for a row [row] */
     SEAMWHISK_NO_BUILD = 14,     /* no whole build [0] */
     SEAMWHISK_BUDGET_SPENT = 15, /* test budget spent [0] */
-    SEAMWHISK_FILE_FORM = 16,    /* plan file form [byte] */
+    SEAMWHISK_FILE_TAG = 16,     /* plan file: wrong tag [0] */
     SEAMWHISK_OFFSET = 17,       /* offset at or above P [row, or byte] */
-    SEAMWHISK_NOT_CLEAR = 18     /* plan to write, read or report on isn't clear [later row of the
+    SEAMWHISK_NOT_CLEAR = 18,    /* plan to write, read or report on isn't clear [later row of the
                                     collision that the checker names] */
+    SEAMWHISK_FILE_CUT = 19,     /* plan file: its bytes end inside the tag or a number [byte] */
+    SEAMWHISK_FILE_LONG = 20,    /* plan file: a number has more than four bytes [byte] */
+    SEAMWHISK_FILE_GROUP = 21,   /* plan file: a number has a needless zero group [byte] */
+    SEAMWHISK_FILE_AFTER = 22    /* plan file: bytes are left over [byte] */
 };
+
+/* What to do about a plan file: at 19 fetch it again; at 16 it is no plan file, or of a later
+ * version; at any other number but 11 its sender is at fault. A file that the writer wrote and that
+ * was cut anywhere gets 19 and no other number. */
 
 /* What a refusal number means, in one line. */
 static inline const char *seamwhisk_refusal(uint64_t number)
@@ -86,9 +94,13 @@ static inline const char *seamwhisk_refusal(uint64_t number)
     case SEAMWHISK_NO_OFFSET: return "this planner has no offset for a row; another may have a plan";
     case SEAMWHISK_NO_BUILD: return "no choice of offsets is clear";
     case SEAMWHISK_BUDGET_SPENT: return "the test budget is spent; nothing is known of the table";
-    case SEAMWHISK_FILE_FORM: return "the bytes are not a plan file";
+    case SEAMWHISK_FILE_TAG: return "the file is no plan file, or of a later version";
     case SEAMWHISK_OFFSET: return "an offset is not below the period";
     case SEAMWHISK_NOT_CLEAR: return "two rows of the plan meet";
+    case SEAMWHISK_FILE_CUT: return "the file is cut off";
+    case SEAMWHISK_FILE_LONG: return "a number of the file has more than four bytes";
+    case SEAMWHISK_FILE_GROUP: return "a number of the file has a needless zero group";
+    case SEAMWHISK_FILE_AFTER: return "bytes follow the plan in the file";
     default: return "no refusal number";
     }
 }
@@ -235,12 +247,13 @@ void seamwhisk_write_plan(uint32_t period, uint32_t size, const uint32_t *delays
                           seamwhisk_written *answer);
 
 /* Reads a plan file. It accepts just the files that the writer writes, one for each clear plan.
- * Judges 16 at 0 if the first four bytes are wrong or missing; then each number as it is read: 16
- * if its form is wrong (cut off, more than four bytes, or a last byte 0 that is not its only one),
- * then its range: period 5, size 6, rows 8, each delay 7, each offset 17; then 16 if bytes are left
- * over, 18, and last 11 if delays_room or offsets_room is below the rows read. The place is the
- * first byte of the number (the length of the file where it has no byte at all) or of the bytes
- * left over; for 18 it is the later row, for 11 it is 0.
+ * Judges the tag: 16 if one of the first four bytes is wrong, 19 if they are right as far as they
+ * go; then each number as it is read: 19 if the file ends inside it, 20 if its fourth byte has the
+ * top bit set, 21 if its last byte is 0 and not its only one, then its range: period 5, size 6,
+ * rows 8, each delay 7, each offset 17; then 22 if bytes are left over, 18, and last 11 if
+ * delays_room or offsets_room is below the rows read. The place is the first byte of the number
+ * (the length of the file where it has no byte at all) or of the bytes left over; for the tag and
+ * for 11 it is 0, for 18 the later row.
  * Otherwise number is 0; period, size and rows are those of the file; delays[0] to delays[rows-1]
  * and offsets[0] to offsets[rows-1] are its delays and offsets. */
 void seamwhisk_read_plan(const uint8_t *file, size_t length, uint32_t *delays, size_t delays_room,

@@ -286,35 +286,31 @@ fn line_faults(index: usize, line: &[u8]) -> Vec<u64> {
     faults
 }
 
-/// The numbers in the bytes after the tag, of any number of bytes each, with their places;
-/// the last one has no value when its bytes are cut off or none are left.
-fn loose_numbers(file: &[u8]) -> Vec<(usize, usize, Option<u64>)> {
-    let mut numbers = Vec::new();
-    let (mut place, mut value) = (4, 0u64);
-    for (index, &byte) in file.iter().enumerate().skip(4) {
-        let group = u64::from(byte & 0x7F);
-        value = value
-            .saturating_add(group.saturating_mul(128u64.saturating_pow((index - place) as u32)));
-        if byte < 0x80 {
-            numbers.push((place, index + 1 - place, Some(value)));
-            (place, value) = (index + 1, 0);
-        }
+/// The bytes after the tag, cut behind each byte without its top bit; the last piece may lack
+/// such a byte.
+fn pieces(file: &[u8]) -> impl Iterator<Item = &[u8]> {
+    file[4..].split_inclusive(|&byte| byte < 0x80)
+}
+
+/// The value of a piece of any length, whatever its form.
+fn loose_value(piece: &[u8]) -> u64 {
+    let mut place_value = 1u64;
+    let mut value = 0u64;
+    for byte in piece {
+        value = value.saturating_add(place_value.saturating_mul(u64::from(byte % 128)));
+        place_value = place_value.saturating_mul(128);
     }
-    numbers.push((place, file.len() - place, None));
-    numbers
+    value
 }
 
 /// A plan read with no care for the form of its numbers.
 pub fn loose_plan(file: &[u8]) -> Option<(Table, Vec<u64>)> {
-    if !file.starts_with(b"PMA\x01") {
+    if !file.starts_with(b"PMA\x01") || *file.last()? >= 0x80 {
         return None;
     }
-    let mut numbers: Vec<Option<u64>> = loose_numbers(file).iter().map(|n| n.2).collect();
-    let nothing_cut = loose_numbers(file).last()?.1 == 0;
-    numbers.pop();
-    let numbers: Vec<u64> = numbers.into_iter().collect::<Option<_>>()?;
+    let numbers: Vec<u64> = pieces(file).map(loose_value).collect();
     let [period, size, rows, ref pairs @ ..] = numbers[..] else { return None };
-    if !nothing_cut || pairs.len() as u64 != rows.saturating_mul(2) {
+    if pairs.len() as u64 != rows.saturating_mul(2) {
         return None;
     }
     let delays: Vec<u64> = pairs.iter().step_by(2).copied().collect();
@@ -330,34 +326,106 @@ pub fn file_is_good(file: &[u8]) -> bool {
     written == Ok(file.len() as u64) && output == file
 }
 
-/// The refusal of a file (11 apart): all faults of all its numbers, and of these the first.
-pub fn file_fault(file: &[u8]) -> Option<Refusal> {
-    if !file.starts_with(b"PMA\x01") {
-        return Some(Refusal { number: 16, place: 0 });
+/// 19 for each front of the tag that a sender could still go on from, listed one by one; 16
+/// for every other file that does not begin with the tag.
+fn tag_fault(file: &[u8]) -> Option<u64> {
+    match file {
+        b"" | b"P" | b"PM" | b"PMA" => Some(19),
+        [b'P', b'M', b'A', 1, ..] => None,
+        _ => Some(16),
     }
-    let numbers = loose_numbers(file);
-    let value = |index: usize| numbers.get(index).and_then(|number| number.2).unwrap_or(0);
-    let (period, rows) = (value(0), value(2) as usize);
-    for (index, &(place, length, value)) in numbers.iter().enumerate() {
-        let left_over = index >= 3 && index >= 3 + 2 * rows;
-        let range = match index {
-            0 => (1, 1_000_000, 5),
-            1 => (1, period, 6),
-            2 => (1, 64, 8),
-            odd if odd % 2 == 1 => (0, 16_777_215, 7),
-            _ => (0, period - 1, 17),
-        };
-        let last_is_zero = length > 1 && file.get(place + length - 1) == Some(&0);
-        let form = length > 4 || last_is_zero || value.is_none();
-        let number = match value {
-            None if left_over && length == 0 => break,
-            _ if form || left_over => 16,
-            Some(value) if value < range.0 || value > range.1 => range.2,
-            _ => continue,
-        };
-        return Some(Refusal { number, place: place as u64 });
+}
+
+/// Are these bytes, all of them, what a sender sends for some number? They must be the form of
+/// their own value: as many groups as it needs, at most four.
+fn is_a_number(bytes: &[u8]) -> bool {
+    let value = loose_value(bytes);
+    let Some(needed) = (1..=4).find(|&groups| value < 1 << (7 * groups)) else { return false };
+    let form = |index: usize| {
+        let group = (value >> (7 * index)) % 128;
+        if index + 1 < needed {
+            group + 128
+        } else {
+            group
+        }
+    };
+    bytes.len() == needed && (0..needed).all(|index| u64::from(bytes[index]) == form(index))
+}
+
+/// Could a sender still make a number of these bytes by sending more? If any bytes do, the one
+/// byte 01 does: it is without its top bit and not zero.
+fn is_front_of_a_number(bytes: &[u8]) -> bool {
+    if bytes.len() > 3 {
+        return false;
+    }
+    let mut longer = [1; 4];
+    longer[..bytes.len()].copy_from_slice(bytes);
+    is_a_number(&longer[..=bytes.len()])
+}
+
+/// What is wrong with a piece as a number. Fronts of numbers are cut and numbers are right; of
+/// the other pieces those that end within four bytes name a value in a form that is not its
+/// own, and the rest has a fourth byte that says that more follow.
+fn form_fault(piece: &[u8]) -> Option<u64> {
+    let ends_in_time = piece.iter().take(4).any(|&byte| byte < 0x80);
+    match piece {
+        cut if is_front_of_a_number(cut) => Some(19),
+        right if is_a_number(right) => None,
+        _ if ends_in_time => Some(21),
+        _ => Some(20),
+    }
+}
+
+/// The refusal of the last of these numbers for its range, if all before it are right.
+fn range_fault(numbers: &[u64]) -> Option<u64> {
+    let (period, index) = (numbers[0], numbers.len() - 1);
+    let (least, most, refusal) = match index {
+        0 => (1, 1_000_000, 5),
+        1 => (1, period, 6),
+        2 => (1, 64, 8),
+        odd if odd % 2 == 1 => (0, 16_777_215, 7),
+        _ => (0, period - 1, 17),
+    };
+    (numbers[index] < least || numbers[index] > most).then_some(refusal)
+}
+
+/// The refusal of a file (11 apart): the first of its pieces that is at fault, else 18. An
+/// empty piece behind the others stands for a number that is not there at all.
+pub fn file_fault(file: &[u8]) -> Option<Refusal> {
+    if let Some(number) = tag_fault(file) {
+        return Some(Refusal { number, place: 0 });
+    }
+    let (mut place, mut numbers) = (4, Vec::new());
+    for piece in pieces(file).chain([&[][..]]) {
+        let all_read = numbers.len() >= 3 && numbers.len() as u64 == 3 + 2 * numbers[2];
+        if all_read && piece.is_empty() {
+            break;
+        }
+        numbers.push(loose_value(piece));
+        let left_over = all_read.then_some(22);
+        let fault = left_over.or_else(|| form_fault(piece)).or_else(|| range_fault(&numbers));
+        if let Some(number) = fault {
+            return Some(Refusal { number, place: place as u64 });
+        }
+        place += piece.len();
     }
     let (table, offsets) = loose_plan(file)?;
     let later = collisions(&table, &offsets).first()?.0;
     Some(Refusal { number: 18, place: later as u64 })
+}
+
+/// The whole answer on a file: number, place, period, size, rows, then the lists of delays and
+/// of offsets as the call leaves them, here lent as (7, 8) and (9, 10).
+pub fn file_answer(file: &[u8]) -> [u64; 9] {
+    let refused = |number, place| [number, place, 0, 0, 0, 7, 8, 9, 10];
+    if let Some(refusal) = file_fault(file) {
+        return refused(refusal.number, refusal.place);
+    }
+    let (table, plan) = loose_plan(file).expect("a file without fault is a plan");
+    let (period, size) = (table.period, table.size);
+    match (&table.delays[..], &plan[..]) {
+        (&[delay], &[offset]) => [0, 0, period, size, 1, delay, 8, offset, 10],
+        (&[delay, next], &[offset, other]) => [0, 0, period, size, 2, delay, next, offset, other],
+        _ => refused(11, 0),
+    }
 }

@@ -1,7 +1,7 @@
 //! Damage to texts and plan files.
 
 use crate::link::Table;
-use crate::planfile::{plan_numbers, seven_bit_groups, TAG};
+use crate::planfile::{plan_file, plan_numbers, seven_bit_groups, TAG};
 use crate::random::Random;
 
 /// One or two damages to a text.
@@ -91,8 +91,13 @@ fn change_line(random: &mut Random, text: &mut Vec<u8>) {
     }
 }
 
-/// The file of a plan, damaged once or twice.
+/// The file of a plan, damaged once or twice; at times only with bytes left over.
 pub fn damage_file(random: &mut Random, table: &Table, offsets: &[u64]) -> Vec<u8> {
+    if random.chance(10) {
+        let mut file = plan_file(table, offsets);
+        leave_over(random, &mut file);
+        return file;
+    }
     let mut values = plan_numbers(table, offsets);
     if random.chance(35) {
         change_number(random, &mut values, table.period.max(1));
@@ -129,9 +134,9 @@ fn change_number(random: &mut Random, values: &mut [u64], period: u64) {
 fn lengthen(random: &mut Random, groups: &mut [Vec<u8>]) {
     let index = random.place(groups.len());
     let bytes = &mut groups[index];
-    let length = match random.below(4) {
-        0 => 5,
-        1 => 4.max(bytes.len()),
+    let length = match random.below(5) {
+        0 | 1 => 5,
+        2 => 4.max(bytes.len()),
         _ => bytes.len() + 1,
     };
     while bytes.len() < length {
@@ -146,13 +151,39 @@ fn lengthen(random: &mut Random, groups: &mut [Vec<u8>]) {
 fn damage_bytes(random: &mut Random, file: &mut Vec<u8>) {
     let place = random.place(file.len());
     let body = random.between(4, file.len() as u64 - 1) as usize;
-    match random.below(10) {
+    match random.below(15) {
         0..=2 => file.truncate(place),
-        3 | 4 => file.push(random.pick(&[0, 1, 0x80, 0xFF])),
-        5 => file[place] = random.below(256) as u8,
-        6 => file[body] ^= 1 << random.below(8),
-        7 => drop(file.remove(body)),
-        8 => file.insert(body, file[body]),
-        _ => file[random.place(4)] ^= 1 << random.below(8),
+        3..=5 => leave_over(random, file),
+        6 => file[place] = random.below(256) as u8,
+        7 => file[body] ^= 1 << random.below(8),
+        8 => drop(file.remove(body)),
+        9 => file.insert(body, file[body]),
+        10 => file[random.place(4)] ^= 1 << random.below(8),
+        11 | 12 => cut_in_tag(random, file),
+        _ => end_in_number(random, file, body),
+    }
+}
+
+/// One to five bytes behind the file.
+fn leave_over(random: &mut Random, file: &mut Vec<u8>) {
+    for _ in 0..random.pick(&[1, 1, 1, 2, 5]) {
+        file.push(random.pick(&[0, 1, 0x50, 0x80, 0xFF]));
+    }
+}
+
+/// The tag cut, at times with a wrong byte in what is left of it.
+fn cut_in_tag(random: &mut Random, file: &mut Vec<u8>) {
+    file.truncate(random.place(4));
+    if random.chance(40) && !file.is_empty() {
+        let place = random.place(file.len());
+        file[place] ^= 1 << random.below(8);
+    }
+}
+
+/// The file ends with one to five bytes that have their top bit set: cut, or too long.
+fn end_in_number(random: &mut Random, file: &mut Vec<u8>, place: usize) {
+    file.truncate(place);
+    for _ in 0..random.between(1, 5) {
+        file.push(0x80 | random.pick(&[0, 1, 0x7F]));
     }
 }

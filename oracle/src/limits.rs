@@ -26,6 +26,8 @@ pub fn all() -> Vec<Case> {
         long_texts,
         files,
         long_files,
+        short_tags,
+        left_over_files,
     ] {
         cases.extend(group());
     }
@@ -328,6 +330,39 @@ fn long_files() -> Vec<Case> {
             let (delays, offsets) = (Lent::new(length, 0), Lent::new(64, 0));
             cases.push(Case::ReadPlan { file: file.clone(), delays, offsets });
         }
+    }
+    cases
+}
+
+/// Every front of the tag with its last byte one off, and with the top bit of that byte set.
+fn short_tags() -> Vec<Case> {
+    let lent = Lent::new(1, 30);
+    let mut cases = Vec::new();
+    for length in 1..=4 {
+        for change in [1, 0x80] {
+            let mut file = plan_file(&Table::new(10, 2, &[0]), &[0])[..length].to_vec();
+            file[length - 1] ^= change;
+            cases.push(Case::ReadPlan { file, delays: lent, offsets: lent });
+        }
+    }
+    cases
+}
+
+/// The longest files and a file that isn't clear, each with bytes left over and one byte short.
+fn left_over_files() -> Vec<Case> {
+    let lent = Lent::new(64, 0);
+    let offsets: Vec<u64> = (0..64).map(|row| 20_000 + row * 15_000).collect();
+    let longest = [128, 16_384]
+        .map(|size| plan_file(&Table::new(1_000_000, size, &[16_777_215; 64]), &offsets));
+    let unclear = plan_file(&Table::new(10, 2, &[0, 0]), &[0, 1]);
+    let mut cases = Vec::new();
+    for file in longest.into_iter().chain([unclear]) {
+        for behind in [&[0][..], &[0x80, 0x80, 0x80, 0x80]] {
+            let file = [&file, behind].concat();
+            cases.push(Case::ReadPlan { file, delays: lent, offsets: lent });
+        }
+        let file = file[..file.len() - 1].to_vec();
+        cases.push(Case::ReadPlan { file, delays: lent, offsets: lent });
     }
     cases
 }

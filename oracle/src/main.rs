@@ -15,6 +15,7 @@ mod random;
 mod report;
 mod selftest;
 mod stats;
+mod strings;
 mod text;
 mod vectors;
 
@@ -23,7 +24,7 @@ use random::Random;
 use std::io::{self, BufRead, BufWriter, Write};
 use std::process::ExitCode;
 
-const USAGE: &str = "usage: oracle selftest | cases SEED COUNT | answers | stats";
+const USAGE: &str = "usage: oracle selftest | cases SEED COUNT | answers | stats | strings";
 
 fn main() -> ExitCode {
     let words: Vec<String> = std::env::args().skip(1).collect();
@@ -36,6 +37,7 @@ fn main() -> ExitCode {
         },
         ["answers"] => print_answers(),
         ["stats"] => print_stats(),
+        ["strings"] => strings::print(),
         _ => Err(USAGE.to_string()),
     };
     match done {

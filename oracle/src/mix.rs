@@ -147,7 +147,7 @@ fn write_plan_case(random: &mut Random) -> Case {
     Case::WritePlan { table, offsets, lent }
 }
 
-fn read_plan_case(random: &mut Random) -> Case {
+pub fn read_plan_case(random: &mut Random) -> Case {
     let (mut table, mut offsets) = plan(random);
     let rows = table.rows();
     spoil(random, &mut table, &mut offsets, 10);

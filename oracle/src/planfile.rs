@@ -1,4 +1,4 @@
-//! The writer and the reader of the plan file.
+//! The writer and the reader of the plan file (document 01; request One of document 02).
 
 use crate::checker;
 use crate::link::{refuse, Refusal, Table, MAX_DELAY, MAX_PERIOD, MAX_ROWS};
@@ -55,15 +55,13 @@ pub fn seven_bit_groups(mut number: u64) -> Vec<u8> {
 
 /// Reads a plan; the two lent lists are written last, when nothing is left to refuse.
 pub fn read_plan(bytes: &[u8], delays: &mut [u64], offsets: &mut [u64]) -> Result<Read, Refusal> {
-    // "for the tag always 0"
-    if !bytes.starts_with(&TAG) {
-        return refuse(16, 0);
-    }
+    judge_tag(bytes)?;
     let mut reader = Reader { bytes, next: TAG.len() };
     let (table, plan) = reader.plan()?;
-    // "After the last number: 16 for bytes left over, then 18, then 11."
+    // "After the last number: 16 for bytes left over, then 18, then 11."; document 02: "22 left
+    // over" in place of this 16
     if reader.next < bytes.len() {
-        return refuse(16, reader.next);
+        return refuse(22, reader.next);
     }
     checker::judge_clear(&table, &plan)?;
     let rows = table.rows();
@@ -75,6 +73,18 @@ pub fn read_plan(bytes: &[u8], delays: &mut [u64], offsets: &mut [u64]) -> Resul
     Ok(Read { period: table.period, size: table.size, rows: rows as u64 })
 }
 
+/// Document 02: "A short file whose bytes so far agree with the tag counts as cut." and "16
+/// keeps the wrong tag; 19 cut". The place: "for the tag always 0".
+fn judge_tag(bytes: &[u8]) -> Result<(), Refusal> {
+    if bytes.iter().zip(&TAG).any(|(byte, right)| byte != right) {
+        return refuse(16, 0);
+    }
+    if bytes.len() < TAG.len() {
+        return refuse(19, 0);
+    }
+    Ok(())
+}
+
 /// "The file reader keeps the caller's bytes and its own place in them."
 struct Reader<'a> {
     bytes: &'a [u8],
@@ -82,7 +92,8 @@ struct Reader<'a> {
 }
 
 impl Reader<'_> {
-    /// "Each number is judged as it is read: 16, then its range (5, 6, 8, 7, 17)."
+    /// "Each number is judged as it is read: 16, then its range (5, 6, 8, 7, 17)."; since
+    /// document 02 its form is 19, 20 or 21 in place of 16.
     fn plan(&mut self) -> Result<(Table, Vec<u64>), Refusal> {
         let period = self.number_in(1..=MAX_PERIOD, 5)?;
         let size = self.number_in(1..=period, 6)?;
@@ -96,11 +107,13 @@ impl Reader<'_> {
         Ok((Table { period, size, delays }, offsets))
     }
 
-    /// The next number, refused at its first byte: 16 for its form, then its own refusal.
+    /// The next number, refused at its first byte: 19, 20 or 21 for its form, then its own
+    /// refusal. Document 02: "Places stay as they are."
     fn number_in(&mut self, range: RangeInclusive<u64>, refusal: u64) -> Result<u64, Refusal> {
         let place = self.next;
-        let Some((value, length)) = number(&self.bytes[place..]) else {
-            return refuse(16, place);
+        let (value, length) = match number(&self.bytes[place..]) {
+            Ok(number) => number,
+            Err(form) => return refuse(form, place),
         };
         self.next += length;
         if !range.contains(&value) {
@@ -110,15 +123,25 @@ impl Reader<'_> {
     }
 }
 
-/// The number at the front of the bytes and how many bytes it has, if it is of right form:
-/// "No number has more than four bytes, and the last byte is zero only in the one-byte form
-/// of 0."
-fn number(bytes: &[u8]) -> Option<(u64, usize)> {
-    let last = bytes.iter().take(4).position(|byte| byte & 0x80 == 0)?;
+/// The number at the front of the bytes and how many bytes it has, or what is wrong with its
+/// form: "No number has more than four bytes, and the last byte is zero only in the one-byte
+/// form of 0."; document 02: "19 cut, 20 too long, 21 needless group".
+fn number(bytes: &[u8]) -> Result<(u64, usize), u64> {
+    let with_top_bit = bytes.iter().take(4).take_while(|&byte| byte & 0x80 != 0).count();
+    // "bytes end inside .. a number of fewer than four bytes so far"
+    if with_top_bit < 4 && with_top_bit == bytes.len() {
+        return Err(19);
+    }
+    // "a fourth byte with its top bit set"
+    if with_top_bit == 4 {
+        return Err(20);
+    }
+    // "number with a needless zero group"
+    let last = with_top_bit;
     if bytes[last] == 0 && last > 0 {
-        return None;
+        return Err(21);
     }
     let groups = bytes[..=last].iter().rev();
     let value = groups.fold(0, |value, byte| 128 * value + u64::from(byte & 0x7F));
-    Some((value, last + 1))
+    Ok((value, last + 1))
 }

@@ -7,18 +7,19 @@ use crate::exact::{ceiling, exact};
 use crate::limits;
 use crate::link::{meet, meet_by_differences, meet_by_slots, Refusal, Table};
 use crate::mix;
-use crate::planfile::{read_plan, write_plan, TAG};
+use crate::planfile::{read_plan, seven_bit_groups, write_plan, TAG};
 use crate::program;
 use crate::quick::{first_fit, meta_offset};
 use crate::random::Random;
 use crate::report::report;
+use crate::strings::{self, each_file, LONGEST, PREFIXES};
 use crate::text::read_table;
 use crate::vectors;
 
 /// A group gives the number of comparisons made, or says what differs.
 type Group = fn() -> Result<u64, String>;
 
-const GROUPS: [(&str, Group); 20] = [
+const GROUPS: [(&str, Group); 25] = [
     ("meeting: slot sets against differences", meeting),
     ("checker: the least of all collisions", checker),
     ("quick planners: the least of all free offsets", quick_planners),
@@ -34,11 +35,16 @@ const GROUPS: [(&str, Group); 20] = [
     ("texts: damaged ones, all faults listed", damaged_texts),
     ("files: all short ones accepted as written", short_files),
     ("files: damaged ones, all faults listed", damaged_files),
+    ("files: all of two bytes, all bytes behind fronts of the tag", near_the_tag),
+    ("files: every string of up to three bytes behind tag and headers", all_strings),
+    ("files: the same behind three bytes of a number", long_numbers),
+    ("files: forms of numbers listed from the writer", listed_numbers),
+    ("files: fronts cut, bytes left over, tags wrong", file_laws),
     ("files: written and read back", files_read_back),
     ("program: what it prints", programs),
     ("lent buffers: kept on refusal, tail kept", lent_buffers),
     ("case lines: read back, within their limits", case_lines),
-    ("vectors: document 01 and readings", all_vectors),
+    ("vectors: documents 01 and 02 and readings", all_vectors),
 ];
 
 pub fn run() -> Result<(), String> {
@@ -393,9 +399,15 @@ fn damaged_texts() -> Result<u64, String> {
     Ok(count)
 }
 
+/// One file's whole answer, with lists of two.
+fn answered(file: &[u8]) -> Result<(), String> {
+    same(file, strings::answer(file), brute::file_answer(file))
+}
+
 /// One file: accepted exactly when the writer gives it for the plan read, else refused with
 /// the first of all its faults.
 fn file_once(file: &[u8]) -> Result<(), String> {
+    answered(file)?;
     let (mut delays, mut offsets) = (vec![0; 64], vec![0; 64]);
     match read_plan(file, &mut delays, &mut offsets) {
         Ok(read) => {
@@ -435,12 +447,161 @@ fn short_files() -> Result<u64, String> {
 fn damaged_files() -> Result<u64, String> {
     let mut random = Random::new(6);
     let mut count = 0;
-    let made = (0..100_000).map(|_| mix::case(&mut random));
+    let made = (0..15_000).map(|_| mix::read_plan_case(&mut random));
     for case in limits::all().into_iter().chain(made) {
         if let Case::ReadPlan { file, .. } = case {
             file_once(&file)?;
             count += 1;
         }
+    }
+    Ok(count)
+}
+
+/// All files of up to two bytes, and every front of the tag with one or two bytes behind it.
+fn near_the_tag() -> Result<u64, String> {
+    let mut count = each_file(&[], 0, answered)?;
+    for front in 0..=TAG.len() {
+        for length in 1..=2 {
+            count += each_file(&TAG[..front], length, answered)?;
+        }
+    }
+    Ok(count)
+}
+
+fn all_strings() -> Result<u64, String> {
+    let mut count = 0;
+    for (_, prefix) in PREFIXES {
+        for length in 0..=LONGEST {
+            count += each_file(prefix, length, answered)?;
+        }
+    }
+    Ok(count)
+}
+
+/// Three bytes of a number, then every string of up to two bytes: here numbers get too long.
+fn long_numbers() -> Result<u64, String> {
+    let mut count = 0;
+    for (_, prefix) in PREFIXES {
+        for before in [&[][..], &[3], &[0x80, 1]] {
+            for number in [[0x80, 0x80, 0x80], [0xFF, 0xFF, 0xFF], [0x81, 0x80, 0x80]] {
+                for length in 0..=2 {
+                    count += each_file(&[prefix, before, &number].concat(), length, answered)?;
+                }
+            }
+        }
+    }
+    Ok(count)
+}
+
+/// The place of a string of up to three bytes in a table of all of them.
+fn index(string: &[u8]) -> usize {
+    string.iter().fold(1, |index, &byte| 256 * index + usize::from(byte))
+}
+
+/// Marks the strings of up to three bytes that are a number (1) or a proper front of one (2),
+/// by writing all numbers of up to three bytes and, of each first three bytes that a number of
+/// four can have, one such number.
+fn written_forms() -> Vec<u8> {
+    let mut forms = vec![0; 2 << 24];
+    for value in 0..2 << 21 {
+        let bytes = seven_bit_groups(value);
+        for length in 0..bytes.len() {
+            forms[index(&bytes[..length])] |= 2;
+        }
+        if bytes.len() <= 3 {
+            forms[index(&bytes)] |= 1;
+        }
+    }
+    forms
+}
+
+/// The delay behind the header of `ten`: cut exactly when all that is there is a proper front
+/// of a written number, right when it begins with one (all these are in range), else with a
+/// needless group: three bytes cannot be too long.
+fn listed_numbers() -> Result<u64, String> {
+    let (_, prefix) = PREFIXES[1];
+    let place = prefix.len() as u64;
+    let forms = written_forms();
+    let mut count = 0;
+    for length in 0..=LONGEST {
+        count += each_file(prefix, length, |file| {
+            let string = &file[prefix.len()..];
+            let expected = match (1..=length).find(|&end| forms[index(&string[..end])] & 1 > 0) {
+                _ if forms[index(string)] & 2 > 0 => Some(19),
+                Some(_) => None,
+                None => Some(21),
+            };
+            let answer = strings::answer(file);
+            let at_delay = answer[0] > 0 && answer[1] == place;
+            same(file, at_delay.then_some(answer[0]), expected)
+        })?;
+    }
+    Ok(count)
+}
+
+/// Number and place of the answer on a file, with lists that are long enough.
+fn refused(file: &[u8]) -> Option<(u64, usize)> {
+    let (mut delays, mut offsets) = (vec![0; 64], vec![0; 64]);
+    let refusal = read_plan(file, &mut delays, &mut offsets).err()?;
+    Some((refusal.number, refusal.place as usize))
+}
+
+/// Every proper front of an accepted file is cut, at the first byte of its tag or number that
+/// is not whole; an accepted file with bytes behind it has them left over, at its old length.
+fn fronts_and_ends(random: &mut Random, file: &[u8]) -> Result<u64, String> {
+    let mut first_byte = 0;
+    for end in 0..file.len() {
+        if end == 4 || (end > 4 && file[end - 1] < 0x80) {
+            first_byte = end;
+        }
+        same(&file[..end], refused(&file[..end]), Some((19, first_byte)))?;
+    }
+    for length in 1..=5 {
+        let behind: Vec<u8> = (0..length).map(|_| random.below(256) as u8).collect();
+        let longer = [file, &behind].concat();
+        same(&longer, refused(&longer), Some((22, file.len())))?;
+    }
+    Ok(file.len() as u64 + 5)
+}
+
+/// 16 comes at place 0 and exactly when one of the first four bytes there is not the tag's;
+/// any other fault but a cut stays as it is, whatever bytes come behind; and a cut can be
+/// mended: with one byte more the same tag (when three bytes of it are there) or number is not
+/// at fault in its form.
+fn damage_laws(random: &mut Random, file: &[u8]) -> Result<(), String> {
+    let wrong = (0..file.len().min(4)).any(|place| file[place] != TAG[place]);
+    let answer = refused(file);
+    same(file, answer == Some((16, 0)), wrong)?;
+    same(file, answer.is_some_and(|(number, _)| number == 16), wrong)?;
+    let byte = random.pick(&[0, 1, 0x80, 0xFF]);
+    let longer = [file, &[byte, random.below(256) as u8]].concat();
+    match answer {
+        Some((19, place)) => {
+            let mended = [file, &[*TAG.get(file.len()).unwrap_or(&1)]].concat();
+            let form =
+                |&(number, at): &(u64, usize)| at == place && [16, 19, 20, 21].contains(&number);
+            same(file, refused(&mended).filter(form).is_some(), file.len() < 3)
+        }
+        None | Some((18, _)) => same(file, refused(&longer), Some((22, file.len()))),
+        fault => same(file, refused(&longer), fault),
+    }
+}
+
+fn file_laws() -> Result<u64, String> {
+    let mut random = Random::new(12);
+    let mut count = 0;
+    for _ in 0..20_000 {
+        let Case::ReadPlan { mut file, .. } = mix::read_plan_case(&mut random) else { continue };
+        if refused(&file).is_none() {
+            count += fronts_and_ends(&mut random, &file)?;
+        }
+        damage_laws(&mut random, &file)?;
+        let place = random.place(file.len().clamp(1, 6));
+        if let Some(byte) = file.get_mut(place) {
+            *byte ^= 1 << random.below(8);
+        }
+        damage_laws(&mut random, &file)?;
+        count += 2;
     }
     Ok(count)
 }

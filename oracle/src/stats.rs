@@ -11,7 +11,7 @@ const POSSIBLE: [&[&str]; 11] = [
     &["plan", "5", "6", "8", "7", "11", "12", "14", "15"],
     &["read", "1", "2", "3", "4", "5", "6", "7", "8", "9", "10", "11"],
     &["written", "5", "6", "8", "7", "11 offsets", "17", "18", "11 output"],
-    &["read", "16 tag", "16 number", "16 left over", "5", "6", "8", "7", "17", "18", "11"],
+    &["read", "16", "19 tag", "19 number", "20", "21", "5", "6", "8", "7", "17", "22", "18", "11"],
     &["stretches", "5", "6", "8", "7", "11", "17", "18"],
     &["value", "0"],
     &["clear", "crossing 1", "crossing 2", "5", "6", "8", "7", "17"],
@@ -50,7 +50,10 @@ fn outcome(case: &Case) -> String {
             let unequal = table.rows() != offsets.len();
             if unequal { "11 offsets" } else { "11 output" }.to_string()
         }
-        Case::ReadPlan { file, .. } if answer[0] == 16 => form_fault(file, answer[1] as usize),
+        // "for the tag always 0": a number is never cut there
+        Case::ReadPlan { .. } if answer[0] == 19 => {
+            if answer[1] == 0 { "19 tag" } else { "19 number" }.to_string()
+        }
         _ if answer[0] > 0 => answer[0].to_string(),
         Case::Check { .. } | Case::CheckRecords { .. } => match answer[4] {
             0 => "clear".to_string(),
@@ -69,17 +72,4 @@ fn program_outcome(output: &[u64]) -> String {
     let text: String = output.iter().map(|&byte| char::from(byte as u8)).collect();
     let words: Vec<&str> = text.split_whitespace().collect();
     if words[0] == "refused" { words[1] } else { words[0] }.to_string()
-}
-
-/// Whether 16 is for the tag, a number or bytes left over: cut off at the place, a file
-/// with bytes left over has another answer.
-fn form_fault(file: &[u8], place: usize) -> String {
-    let mut lists = (vec![0; 64], vec![0; 64]);
-    let front = crate::planfile::read_plan(&file[..place], &mut lists.0, &mut lists.1);
-    match (place, front) {
-        (0, _) => "16 tag",
-        (_, Err(refusal)) if refusal.number == 16 => "16 number",
-        _ => "16 left over",
-    }
-    .to_string()
 }

@@ -1,5 +1,5 @@
-//! Vectors: every worked table of document 01 and every example of its decided readings,
-//! each with the answer written down by hand.
+//! Vectors: every worked table of document 01, request One of document 02, and every example of
+//! their decided readings, each with the answer written down by hand.
 
 use crate::cases::{counted, Case, Lent};
 use crate::checker::Record;
@@ -44,6 +44,14 @@ pub fn all() -> Vec<Vector> {
         writer_orders,
         longest_file,
         program,
+        tags_wrong_or_cut,
+        numbers_cut_or_too_long,
+        numbers_with_needless_groups,
+        form_before_range,
+        range_before_the_next_form,
+        bytes_left_over,
+        every_fault_at_every_number,
+        file_of_every_number,
     ] {
         vectors.extend(group());
     }
@@ -171,7 +179,7 @@ fn worked_others() -> Vec<Vector> {
             &[0, 0, 13, 0x50, 0x4D, 0x41, 1, 10, 2, 3, 0, 0, 3, 2, 7, 5],
         ),
         is("01 file read", file_into(&file(FIRST_FILE), 3, 3), &[0, 0, 10, 2, 3, 0, 3, 7, 0, 2, 5]),
-        body_refused("01 number AC 82 00", &[0xAC, 0x82, 0], 16, 4),
+        body_refused("01 number AC 82 00", &[0xAC, 0x82, 0], 21, 4),
         is(
             "01 number AC 02",
             file_into(&file(&[0xAC, 2, 1, 1, 0, 0]), 1, 1),
@@ -204,7 +212,7 @@ fn errors_to_avoid() -> Vec<Vector> {
     ]
 }
 
-// Readings A to G and O.
+// Readings A to G and O, the refusals of the plan file as request One gives them.
 
 fn general() -> Vec<Vector> {
     vec![
@@ -535,29 +543,29 @@ fn plan_file_numbers() -> Vec<Vector> {
         body_refused("F1", &[10, 11], 6, 5),
         body_refused("F1", &[10, 2, 0], 8, 6),
         body_refused("F1", &[10, 2, 65], 8, 6),
-        body_refused("F2", &[], 16, 4),
-        body_refused("F2", &[10], 16, 5),
-        body_refused("F2", &[10, 2], 16, 6),
-        body_refused("F2", &[10, 2, 1], 16, 7),
-        body_refused("F2", &[10, 2, 1, 0], 16, 8),
-        body_refused("F2", &[10, 2, 2, 0, 0], 16, 9),
-        body_refused("F2 cut in a number", &[10, 2, 1, 0x80], 16, 7),
-        body_refused("F2 cut in a number", &[0x80, 0x80, 0x80], 16, 4),
-        file_refused("F3", b"", 16, 0),
-        file_refused("F3", b"P", 16, 0),
-        file_refused("F3", b"PMA", 16, 0),
+        body_refused("F2", &[], 19, 4),
+        body_refused("F2", &[10], 19, 5),
+        body_refused("F2", &[10, 2], 19, 6),
+        body_refused("F2", &[10, 2, 1], 19, 7),
+        body_refused("F2", &[10, 2, 1, 0], 19, 8),
+        body_refused("F2", &[10, 2, 2, 0, 0], 19, 9),
+        body_refused("F2 cut in a number", &[10, 2, 1, 0x80], 19, 7),
+        body_refused("F2 cut in a number", &[0x80, 0x80, 0x80], 19, 4),
+        file_refused("F3", b"", 19, 0),
+        file_refused("F3", b"P", 19, 0),
+        file_refused("F3", b"PMA", 19, 0),
         file_refused("F3", b"PMA\0", 16, 0),
         file_refused("F3", b"PMA\x02\x0A\x02\x01\0\0", 16, 0),
         file_refused("F3", b"pma\x01\x0A\x02\x01\0\0", 16, 0),
         body_refused("F4", &[255, 255, 255, 0x7F], 5, 4),
         body_refused("F4", &[10, 2, 1, 255, 255, 255, 0x7F], 7, 7),
-        body_refused("F4 five bytes", &[255, 255, 255, 255, 1], 16, 4),
-        body_refused("F4 five bytes", &[10, 2, 1, 0x81, 0x80, 0x80, 0x80, 0], 16, 7),
-        body_refused("F5", &[0x80, 0], 16, 4),
-        body_refused("F5", &[10, 2, 1, 0x80, 0, 0], 16, 7),
-        body_refused("F5", &[10, 2, 1, 0x80, 0x80, 0, 0], 16, 7),
-        body_refused("F5", &[10, 2, 1, 0xAC, 0x82, 0, 0], 16, 7),
-        body_refused("F5", &[10, 2, 1, 0x80, 0x80, 0x80, 0, 0], 16, 7),
+        body_refused("F4 five bytes", &[255, 255, 255, 255, 1], 20, 4),
+        body_refused("F4 five bytes", &[10, 2, 1, 0x81, 0x80, 0x80, 0x80, 0], 20, 7),
+        body_refused("F5", &[0x80, 0], 21, 4),
+        body_refused("F5", &[10, 2, 1, 0x80, 0, 0], 21, 7),
+        body_refused("F5", &[10, 2, 1, 0x80, 0x80, 0, 0], 21, 7),
+        body_refused("F5", &[10, 2, 1, 0xAC, 0x82, 0, 0], 21, 7),
+        body_refused("F5", &[10, 2, 1, 0x80, 0x80, 0x80, 0, 0], 21, 7),
         is(
             "F5 16384",
             file_into(&file(&[10, 2, 1, 0x80, 0x80, 1, 0]), 1, 1),
@@ -569,14 +577,14 @@ fn plan_file_numbers() -> Vec<Vector> {
 
 fn plan_file_orders() -> Vec<Vector> {
     vec![
-        body_refused("F6 left over, 18", &[10, 2, 2, 0, 0, 0, 1, 9], 16, 11),
-        body_refused("F6 left over", &[10, 2, 1, 0, 0, 0], 16, 9),
-        body_refused("F6 left over", &[10, 2, 1, 0, 0, 0x80], 16, 9),
+        body_refused("F6 left over, 18", &[10, 2, 2, 0, 0, 0, 1, 9], 22, 11),
+        body_refused("F6 left over", &[10, 2, 1, 0, 0, 0], 22, 9),
+        body_refused("F6 left over", &[10, 2, 1, 0, 0, 0x80], 22, 9),
         body_refused("F6 18", &[10, 2, 2, 0, 0, 0, 1], 18, 1),
         body_refused("F6 18 before 11", &[10, 2, 3, 0, 0, 0, 5, 0, 1], 18, 2),
         body_refused("F6 11", FIRST_FILE, 11, 0),
-        body_refused("F6 left over before 11", &[FIRST_FILE, &[0]].concat(), 16, 13),
-        body_refused("F7", &[10, 2, 64], 16, 7),
+        body_refused("F6 left over before 11", &[FIRST_FILE, &[0]].concat(), 22, 13),
+        body_refused("F7", &[10, 2, 64], 19, 7),
         body_refused("F1 17", &[10, 2, 1, 0, 10], 17, 8),
         body_refused("F1 7", &[10, 2, 1, 0x80, 0x80, 0x80, 8, 99], 7, 7),
     ]
@@ -586,20 +594,20 @@ fn plan_file_orders() -> Vec<Vector> {
 fn files_with_four_lent() -> Vec<Vector> {
     let files: [(&str, &[u8], u64, u64); 17] = [
         ("F3 other tag", b"PXA\x01\x0A\x02\x01\0\0", 16, 0),
-        ("F2 cut in the period", b"PMA\x01\x80\x80", 16, 4),
-        ("F2 last number cut", b"PMA\x01\x0A\x02\x03\0\0\x03\x02\x07", 16, 12),
-        ("F5 80 00", b"PMA\x01\x80\0\x02\x01\0\0", 16, 4),
-        ("F5 80 80 00", b"PMA\x01\x80\x80\0\x02\x01\0\0", 16, 4),
-        ("F5 AC 82 00", b"PMA\x01\xAC\x82\0\x02\x01\0\0", 16, 4),
-        ("F5 AC 82 00 as size", b"PMA\x01\x0A\xAC\x82\0\x01\0\0", 16, 5),
-        ("F5 80 80 80 00", b"PMA\x01\x80\x80\x80\0\x02\x01\0\0", 16, 4),
-        ("F4 five bytes", b"PMA\x01\x80\x80\x80\x80\x01\x02\x01\0\0", 16, 4),
+        ("F2 cut in the period", b"PMA\x01\x80\x80", 19, 4),
+        ("F2 last number cut", b"PMA\x01\x0A\x02\x03\0\0\x03\x02\x07", 19, 12),
+        ("F5 80 00", b"PMA\x01\x80\0\x02\x01\0\0", 21, 4),
+        ("F5 80 80 00", b"PMA\x01\x80\x80\0\x02\x01\0\0", 21, 4),
+        ("F5 AC 82 00", b"PMA\x01\xAC\x82\0\x02\x01\0\0", 21, 4),
+        ("F5 AC 82 00 as size", b"PMA\x01\x0A\xAC\x82\0\x01\0\0", 21, 5),
+        ("F5 80 80 80 00", b"PMA\x01\x80\x80\x80\0\x02\x01\0\0", 21, 4),
+        ("F4 five bytes", b"PMA\x01\x80\x80\x80\x80\x01\x02\x01\0\0", 20, 4),
         ("F4 FF FF FF 7F", b"PMA\x01\xFF\xFF\xFF\x7F\x02\x01\0\0", 5, 4),
         ("01 size 6 with period 5", b"PMA\x01\x05\x06\x01\0\0", 6, 5),
         ("F1 size 0", b"PMA\x01\x05\0\x01\0\0", 6, 5),
         ("F1 delay 2^24", b"PMA\x01\x0A\x02\x01\x80\x80\x80\x08\0", 7, 7),
-        ("F6 left over", b"PMA\x01\x0A\x02\x03\0\0\x03\x02\x07\x05\0", 16, 13),
-        ("F6 left over, 18", b"PMA\x01\x0A\x02\x02\0\0\0\x01\0", 16, 11),
+        ("F6 left over", b"PMA\x01\x0A\x02\x03\0\0\x03\x02\x07\x05\0", 22, 13),
+        ("F6 left over, 18", b"PMA\x01\x0A\x02\x02\0\0\0\x01\0", 22, 11),
         ("F6 18", b"PMA\x01\x0A\x02\x02\0\0\0\x01", 18, 1),
         ("D2 reader", b"PMA\x01\x0A\x02\x04\0\0\0\x05\0\x05\0\0", 18, 2),
     ];
@@ -721,5 +729,186 @@ fn program() -> Vec<Vector> {
         prints("G4", &nine, "refused 12 0\n"),
         prints("G4", &sixty_four, "refused 12 0\n"),
         prints("G5", &after_64_rows("5\nend 65\n"), "refused 8 139\n"),
+    ]
+}
+
+// Document 02, request One, and readings H.
+
+/// "tag wrong" comes first, also in a short file; "A short file whose bytes so far agree with
+/// the tag counts as cut."
+fn tags_wrong_or_cut() -> Vec<Vector> {
+    vec![
+        file_refused("H1 two bytes that agree: cut", b"PM", 19, 0),
+        file_refused("H1 first byte wrong", b"X", 16, 0),
+        file_refused("H1 first byte wrong: small letter", b"p", 16, 0),
+        file_refused("H1 first byte wrong: its top bit", b"\xD0", 16, 0),
+        file_refused("H1 second of two wrong", b"PX", 16, 0),
+        file_refused("H1 first of two wrong", b"XM", 16, 0),
+        file_refused("H1 third of three wrong", b"PMX", 16, 0),
+        file_refused("H1 first of three wrong", b"QMA", 16, 0),
+        file_refused("H1 third byte missing, the fourth in its place", b"PM\x01", 16, 0),
+        file_refused("H1 first byte lost", b"MA\x01\x0A\x02\x01\0\0", 16, 0),
+        file_refused("H4 fourth byte 02", b"PMA\x02", 16, 0),
+        file_refused("H4 fourth byte 03", b"PMA\x03", 16, 0),
+        file_refused("H4 fourth byte 81", b"PMA\x81", 16, 0),
+        file_refused("H4 fourth byte 00, the rest right", b"PMA\0\x0A\x02\x01\0\0", 16, 0),
+        file_refused("H4 fourth byte 03, the rest right", b"PMA\x03\x0A\x02\x01\0\0", 16, 0),
+        file_refused("16 before 19 of a number", b"PMA\0\x80", 16, 0),
+        file_refused("16 before 20", b"PXA\x01\x80\x80\x80\x80", 16, 0),
+        file_refused("16 before 21", b"XMA\x01\x80\0", 16, 0),
+        file_refused("16 before 5", b"PMX\x01\0", 16, 0),
+        file_refused("16 before 22", b"PMA\x02\x0A\x02\x01\0\0\0", 16, 0),
+    ]
+}
+
+/// "bytes end inside the tag or a number of fewer than four bytes so far, a fourth byte with
+/// its top bit set"
+fn numbers_cut_or_too_long() -> Vec<Vector> {
+    vec![
+        body_refused("H2 one byte with top bit, then the end", &[0xAC], 19, 4),
+        body_refused("H2 two bytes with top bit, then the end", &[0xAC, 0x82], 19, 4),
+        body_refused("H2 three bytes with top bit, then the end", &[255, 255, 255], 19, 4),
+        body_refused("H2 four at the very end: 20, not 19", &[0x80, 0x80, 0x80, 0x80], 20, 4),
+        body_refused("H2 four at the very end: 20, not 19", &[255, 255, 255, 255], 20, 4),
+        body_refused("H2 five with top bit", &[0x80, 0x80, 0x80, 0x80, 0x80], 20, 4),
+        body_refused("H2 a zero as fifth byte: 20, not 21", &[0x80, 0x80, 0x80, 0x80, 0], 20, 4),
+        body_refused("H2 a fifth byte that ends: 20", &[0x8A, 0x80, 0x80, 0x80, 1, 2, 1], 20, 4),
+        body_refused(
+            "H2 the right number follows: 20",
+            &[255, 255, 255, 255, 7, 2, 1, 0, 0],
+            20,
+            4,
+        ),
+        body_refused("H2 in the last number: 20", &[10, 2, 1, 0, 0x80, 0x80, 0x80, 0x80, 5], 20, 8),
+    ]
+}
+
+/// "number with a needless zero group"
+fn numbers_with_needless_groups() -> Vec<Vector> {
+    vec![
+        body_refused("H2 80 80 80 00 at the end: 21", &[0x80, 0x80, 0x80, 0], 21, 4),
+        body_refused("H2 FF FF FF 00 at the end: 21", &[255, 255, 255, 0], 21, 4),
+        body_refused("F5 80 80 00 at the end: 21", &[0x80, 0x80, 0], 21, 4),
+        body_refused("10 in two bytes", &[0x8A, 0, 2, 1, 0, 0], 21, 4),
+        body_refused("21 with a cut number behind it", &[0x80, 0x80, 0x80, 0, 0x80], 21, 4),
+        body_refused("21 before a number too long", &[0x80, 0, 0x80, 0x80, 0x80, 0x80], 21, 4),
+        body_refused("a zero group, then another: 21", &[0x8A, 0x80, 0, 2, 1, 0, 0], 21, 4),
+        body_refused("21 in the last number", &[10, 2, 1, 0, 0x85, 0], 21, 8),
+        body_refused("21 in the last number, 5 behind it", &[10, 2, 1, 0, 0x80, 0, 5], 21, 8),
+        is(
+            "a zero group that is not the last",
+            file_into(&file(&[10, 2, 1, 0x80, 0x80, 0x80, 1, 0]), 1, 1),
+            &[0, 0, 10, 2, 1, 2_097_152, 0],
+        ),
+    ]
+}
+
+/// H3: the form of a number comes before its own range.
+fn form_before_range() -> Vec<Vector> {
+    vec![
+        body_refused("period 0 in three bytes, 21 not 5", &[0x80, 0x80, 0, 2, 1, 0, 0], 21, 4),
+        body_refused("size 0 in two bytes, 21 not 6", &[10, 0x80, 0, 1, 0, 0], 21, 5),
+        body_refused("size 11 in two bytes, 21 not 6", &[10, 0x8B, 0, 1, 0, 0], 21, 5),
+        body_refused("size too long, 20 not 6", &[10, 255, 255, 255, 255, 1], 20, 5),
+        body_refused("n of 0 in two bytes, 21 not 8", &[10, 2, 0x80, 0], 21, 6),
+        body_refused("n of 65 in two bytes, 21 not 8", &[10, 2, 0xC1, 0], 21, 6),
+        body_refused("delay too long, 20 not 7", &[10, 2, 1, 255, 255, 255, 255, 0x7F, 0], 20, 7),
+        body_refused("delay cut, 19 not 7", &[10, 2, 1, 255, 255, 255], 19, 7),
+        body_refused("offset 10 in two bytes, 21 not 17", &[10, 2, 1, 0, 0x8A, 0], 21, 8),
+        body_refused("offset cut, 19 not 17", &[10, 2, 1, 0, 0x8A], 19, 8),
+        body_refused("four bytes of right form, 5", &[0x80, 0x80, 0x80, 1], 5, 4),
+    ]
+}
+
+/// H3: "form (19, 20, 21) of a number, then 5/6/26/8/7/17, then the next number"
+fn range_before_the_next_form() -> Vec<Vector> {
+    vec![
+        body_refused("period 0, then a cut size: 5", &[0, 0x80], 5, 4),
+        body_refused("period 0, then a size too long: 5", &[0, 0x80, 0x80, 0x80, 0x80], 5, 4),
+        body_refused("period 0, then a needless group: 5", &[0, 0x82, 0], 5, 4),
+        body_refused("period 1,000,001, then the end: 5", &[0xC1, 0x84, 0x3D], 5, 4),
+        body_refused("period 1,000,000, then the end: 19", &[0xC0, 0x84, 0x3D], 19, 7),
+        body_refused("size 0, then a cut n: 6", &[10, 0, 0x80], 6, 5),
+        body_refused("size 11, then an n too long: 6", &[10, 11, 0x80, 0x80, 0x80, 0x80], 6, 5),
+        body_refused("n of 0 and a row: 8, not 22", &[10, 2, 0, 0, 0], 8, 6),
+        body_refused("n of 0, then a needless group: 8", &[10, 2, 0, 0x80, 0], 8, 6),
+        body_refused("n of 65, then a cut delay: 8", &[10, 2, 65, 0x80], 8, 6),
+        body_refused("delay 2^24, then the end: 7", &[10, 2, 1, 0x80, 0x80, 0x80, 8], 7, 7),
+        body_refused("delay 2^24, cut offset: 7", &[10, 2, 1, 0x80, 0x80, 0x80, 8, 0x80], 7, 7),
+        body_refused("offset 10, then the end: 17", &[10, 2, 2, 0, 10], 17, 8),
+        body_refused("offset 10, needless group: 17", &[10, 2, 2, 0, 10, 0x80, 0], 17, 8),
+        body_refused("last offset 10, left over: 17, not 22", &[10, 2, 1, 0, 10, 9], 17, 8),
+    ]
+}
+
+/// "bytes left over" are judged behind the last number, before 18 and 11, whatever they are.
+fn bytes_left_over() -> Vec<Vector> {
+    let good = [10, 2, 1, 0, 0];
+    let behind = |name, bytes: &[u8]| body_refused(name, &[&good, bytes].concat(), 22, 9);
+    vec![
+        behind("left over bytes that are no number", &[0x80, 0x80, 0x80, 0x80]),
+        behind("left over bytes with a needless group", &[0x80, 0]),
+        behind("left over bytes of one more row", &[3, 5]),
+        behind("left over: the tag once more", b"PMA\x01"),
+        behind("left over: a whole file once more", b"PMA\x01\x0A\x02\x01\0\0"),
+        body_refused("n one too small: 22", &[10, 2, 2, 0, 0, 3, 2, 7, 5], 22, 11),
+        body_refused("n one too large: 19", &[10, 2, 4, 0, 0, 3, 2, 7, 5], 19, 13),
+        body_refused(
+            "not clear, two bytes left over: 22, not 18",
+            &[10, 2, 2, 0, 0, 0, 1, 0x80, 0],
+            22,
+            11,
+        ),
+        is(
+            "not clear, lists too short, left over: 22, not 18 or 11",
+            file_into(&file(&[10, 2, 2, 0, 0, 0, 1, 9]), 0, 1),
+            &[22, 11, 0, 0, 0, 70],
+        ),
+        is(
+            "lists too short, cut: 19, not 11",
+            file_into(&file(&[10, 2, 2, 0, 0, 0]), 0, 0),
+            &[19, 10, 0, 0, 0],
+        ),
+    ]
+}
+
+/// The file of period 300, size 2, two rows, delays (5 300), offsets (0 128): the bytes before
+/// each of its seven numbers are right, then the number has one of these faults.
+fn every_fault_at_every_number() -> Vec<Vector> {
+    // Bytes before period, size, n, delay 0, offset 0, delay 1 and offset 1, and the place.
+    let fronts: [(&[u8], u64); 7] = [
+        (&[], 4),
+        (&[0xAC, 2], 6),
+        (&[0xAC, 2, 2], 7),
+        (&[0xAC, 2, 2, 2], 8),
+        (&[0xAC, 2, 2, 2, 5], 9),
+        (&[0xAC, 2, 2, 2, 5, 0], 10),
+        (&[0xAC, 2, 2, 2, 5, 0, 0xAC, 2], 12),
+    ];
+    let faults: [(&str, &[u8], u64); 7] = [
+        ("cut before its first byte", &[], 19),
+        ("cut behind its first byte", &[0x81], 19),
+        ("cut behind its third byte", &[0x81, 0x80, 0x80], 19),
+        ("four bytes with top bit at the end", &[0x81, 0x80, 0x80, 0x80], 20),
+        ("five bytes", &[0x81, 0x80, 0x80, 0x80, 0, 5, 0], 20),
+        ("1 in two bytes", &[0x81, 0, 1, 0, 5], 21),
+        ("1 in four bytes", &[0x81, 0x80, 0x80, 0], 21),
+    ];
+    let mut vectors = Vec::new();
+    for (front, place) in fronts {
+        for (name, bytes, number) in faults {
+            vectors.push(body_refused(name, &[front, bytes].concat(), number, place));
+        }
+    }
+    vectors
+}
+
+/// The same file whole, and with bytes left over.
+fn file_of_every_number() -> Vec<Vector> {
+    let body = [0xAC, 2, 2, 2, 5, 0, 0xAC, 2, 0x80, 1];
+    vec![
+        is("whole", file_into(&file(&body), 2, 2), &[0, 0, 300, 2, 2, 5, 300, 0, 128]),
+        body_refused("a byte left over", &[&body[..], &[0]].concat(), 22, 14),
+        body_refused("a cut number left over", &[&body[..], &[0x80]].concat(), 22, 14),
     ]
 }

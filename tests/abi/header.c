@@ -5,7 +5,7 @@
 
 #include "seamwhisk.h"
 
-#define LAST SEAMWHISK_NOT_CLEAR
+#define LAST SEAMWHISK_FILE_AFTER
 
 int main(void)
 {

@@ -17,7 +17,7 @@ use Rattle.link.specs.Rows.{spanOf, Clear}
 use Rattle.link.specs.declared.Link.{Link}
 use Rattle.checker.proofs.Judging.{clear-fine, fine-clear}
 use Rattle.planfile.specs.Bytes.{Bytes}
-use Rattle.planfile.specs.Causes.{badFile}
+use Rattle.planfile.specs.Causes.{leftOver}
 use Rattle.planfile.specs.Format.{planBytes}
 use Rattle.planfile.specs.FileMeaning.{Meaning, plan, refused, closing, meaning}
 use Rattle.planfile.specs.Answer.{lists, readSaid, readsPlan, ReadGives, Gives, refuses, delivers, delivered, readGives}
@@ -38,7 +38,7 @@ module _ (k : Link) (ds os : List ℕ) where
       r .here ∙ rw (none-left (planBytes k ds os) k ds os (r .place) all, ← clear-fine k ds os (w .0) (w .1))
 
   pub added-means : (b : ℕ) (bs : List ℕ) → GoodPlan k ds os
-      → meaning (planBytes k ds os ++ (b ∷ bs)) ≡ refused badFile (length (planBytes k ds os))
+      → meaning (planBytes k ds os ++ (b ∷ bs)) ≡ refused leftOver (length (planBytes k ds os))
   added-means b bs g =
       let r = reached k ds os (b ∷ bs) g in
       let size = length-drop (r .place) (planBytes k ds os ++ (b ∷ bs)) in
@@ -46,7 +46,7 @@ module _ (k : Link) (ds os : List ℕ) where
       let whole = length-append (planBytes k ds os) (b ∷ bs) in
       let more : r .place < length (planBytes k ds os ++ (b ∷ bs)) = omega arith in
       let place : r .place ≡ length (planBytes k ds os) = omega arith in
-      r .here ∙ some-left _ k ds os (r .place) more ∙ ap (refused badFile) place
+      r .here ∙ some-left _ k ds os (r .place) more ∙ ap (refused leftOver) place
 
   -- its bytes are delivered into lists with room
   pub reads-back : ClearPlan k ds os → (oldD oldO : List ℕ) → length ds ≤ length oldD → length os ≤ length oldO

@@ -27,7 +27,7 @@ module _ (r : RowsRead) (ds os : List ℕ) (s : Step Rows) (e : rowsed r ds os �
   unfolding rowsed
   rows-refused n p f = sym e ∙ ap (λ (x : RowsRead). rowsed x ds os) f
 
--- "After the last number: 16 for bytes left over", before anything else is judged
+-- "After the last number: .. bytes left over", before anything else is judged
 module _ (bs : List ℕ) (k : Link) (ds os : List ℕ) (at : ℕ) where
   pub some-left : at < length bs → closing bs k ds os at ≡ refused leftOver at
   unfolding closing

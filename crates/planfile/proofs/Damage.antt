@@ -12,11 +12,11 @@ use Rattle.ground.proofs.Bools.{never, lt-or-ge}
 use Rattle.link.specs.Limits.{maxPeriod, maxDelay, maxRows, badPeriod, badSize, badDelay, badRows, badOffset}
 use Rattle.link.specs.Range.{GoodTable, GoodPlan}
 use Rattle.link.specs.declared.Link.{Link}
-use Rattle.planfile.specs.Causes.{badFile, cutOff}
+use Rattle.planfile.specs.Causes.{cutOff}
 use Rattle.planfile.specs.Number.{numberBytes, formFault}
 use Rattle.planfile.specs.Format.{tag, headerBytes, rowsBytes, planBytes, rowsParts, numbersParts, planParts, firstByte, placeOf}
 use Rattle.planfile.specs.FileMeaning.{Step, got, stopped, passing, number, header, row, rows, Meaning, refused, means, body}
-use Rattle.planfile.specs.FileMeaning.{meaning}
+use Rattle.planfile.specs.FileMeaning.{tagFault, meaning}
 use Rattle.planfile.specs.declared.Number.the-variants.{Cut}
 use Rattle.planfile.proofs.Encoding.{number-cut}
 use Rattle.planfile.proofs.Steps.{number-form}
@@ -134,12 +134,12 @@ module _ (bs : List ℕ) (place : ℕ) where
       (rows-either p at₁ (xs ++ (d ∷ [])) (ys ++ (o ∷ [])) ds os h (later-rows p d o ds os w) c₁))
 
   means-refused : {A : Type 0} (s : Step A) (f : A → ℕ → Meaning) {a : A} {parts : List (List ℕ)} → Either s a bs parts place
-      → ((at : ℕ) → CutIn bs parts at place → f a at ≡ refused badFile place) → means s f ≡ refused badFile place
+      → ((at : ℕ) → CutIn bs parts at place → f a at ≡ refused cutOff place) → means s f ≡ refused cutOff place
   means-refused s f (cut e) g = rw e
   means-refused s f (on at e c) g = rw e (g at c)
 
   body-cut : (k : Link) (ds os : List ℕ) → GoodPlan k ds os
-      → CutIn bs (numbersParts k ds os) 4 place → body bs 4 ≡ refused badFile place
+      → CutIn bs (numbersParts k ds os) 4 place → body bs 4 ≡ refused cutOff place
   unfolding body flatten numbersParts
   body-cut k ds os g c =
       means-refused (header bs 4) _ (header-either _ 4 k ds (g .table) c)
@@ -148,8 +148,8 @@ module _ (bs : List ℕ) (place : ℕ) where
       (λ _ c₂. absurd (omega (arith, c₂ .inside))))
 
 parts-cut : (k : Link) (ds os : List ℕ) (m : ℕ) → GoodPlan k ds os → m < length (flatten (planParts k ds os)) →
-    meaning (take m (flatten (planParts k ds os))) ≡ refused badFile (placeOf k ds os m)
-unfolding planParts flatten firstByte meaning begins
+    meaning (take m (flatten (planParts k ds os))) ≡ refused cutOff (placeOf k ds os m)
+unfolding planParts flatten firstByte meaning tagFault begins
 parts-cut k ds os zero g h = refl
 parts-cut k ds os (suc zero) g h = refl
 parts-cut k ds os (suc (suc zero)) g h = refl
@@ -162,5 +162,5 @@ parts-cut k ds os (suc (suc (suc (suc m)))) g h =
     (record { kept = m; here = refl; inside = omega arith; begins = first })
 
 pub cut-anywhere : (k : Link) (ds os : List ℕ) (m : ℕ) → GoodPlan k ds os → m < length (planBytes k ds os) →
-    meaning (take m (planBytes k ds os)) ≡ refused badFile (placeOf k ds os m)
+    meaning (take m (planBytes k ds os)) ≡ refused cutOff (placeOf k ds os m)
 cut-anywhere k ds os m g h = rw (plan-parts k ds os) (parts-cut k ds os m g (rw (plan-parts k ds os) at h))

@@ -7,9 +7,8 @@ use Prim.Native.Nat.{ℕ}
 use Rattle.ground.proofs.Bools.{never}
 use Rattle.link.specs.declared.Link.{Link}
 use Rattle.planfile.specs.Bytes.{Bytes}
-use Rattle.planfile.specs.Causes.{wrongTag}
 use Rattle.planfile.specs.Format.{tag}
-use Rattle.planfile.specs.FileMeaning.{Step, got, stopped, after, Head, header, tagged, rows, Meaning, refused, means}
+use Rattle.planfile.specs.FileMeaning.{Step, got, stopped, after, Head, header, tagFault, tagged, rows, Meaning, refused, means}
 use Rattle.ground.specs.Words.{begins}
 use Rattle.planfile.specs.FileMeaning.{closing, rest, body, meaning}
 use Rattle.planfile.specs.Answer.{headed, InRange, refuses, delivered, restGives, ReadGives, Gives, readGives, IsFileOf}
@@ -20,7 +19,7 @@ use Rattle.planfile.proofs.Accepting.{headed as header-read}
 use Rattle.planfile.proofs.Promises.{is-file-of}
 
 module _ (bs : List ℕ) (at : ℕ) where
-  pub no-tag : begins tag bs ≡ false → tagged bs at ≡ stopped wrongTag 0
+  pub no-tag : begins tag bs ≡ false → tagged bs at ≡ stopped (tagFault bs) 0
   no-tag e = rw e
 
   pub with-tag : begins tag bs ≡ true → tagged bs at ≡ header bs at
@@ -32,7 +31,7 @@ module _ (bs : List ℕ) (at : ℕ) where
   in-range (Refused n p) e = tt
   in-range (Read k n next) e = go (begins tag bs) e
     where
-      go : (b : Bool) → got (record { link = k; rows = n }) next ≡ cond b (header bs at) (stopped wrongTag 0) → InRange (Read k n next)
+      go : (b : Bool) → got (record { link = k; rows = n }) next ≡ cond b (header bs at) (stopped (tagFault bs) 0) → InRange (Read k n next)
       go true f = let r = header-read bs at (record { link = k; rows = n }) next (sym f) in (r .period .low, r .rows .high)
       go false f = never (cc)
 
@@ -63,8 +62,8 @@ module _ (bs oldD oldO : List ℕ) where
       ap (λ (s : Step Head). delivered (means s (λ x _. rest bs x (after 4 s))) oldD oldO) e
       ∙ ap (λ (m : Meaning). delivered m oldD oldO) (goes-on 4 (tagged bs 4) ∙ go (begins tag bs))
     where
-      go : (b : Bool) → means (cond b (header bs 4) (stopped wrongTag 0)) (λ x next. rest bs x next)
-          ≡ cond b (body bs 4) (refused wrongTag 0)
+      go : (b : Bool) → means (cond b (header bs 4) (stopped (tagFault bs) 0)) (λ x next. rest bs x next)
+          ≡ cond b (body bs 4) (refused (tagFault bs) 0)
       go true = refl
       go false = refl
 

@@ -1,5 +1,6 @@
 -- Laws that belong to no one function.
 pub mod NoValue
+pub mod NumberForms
 pub mod Numbers
 pub mod Steps
 pub mod Closing
@@ -10,7 +11,10 @@ pub mod RoundTrip
 pub mod OneFile
 pub mod Accepted
 pub mod Damage
+pub mod Stopping
+pub mod FirstFault
 pub mod NoSecond
 pub mod Promises
 pub mod Joining
 pub mod Worked
+pub mod WorkedCauses

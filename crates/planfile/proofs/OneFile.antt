@@ -16,7 +16,6 @@ use Rattle.ground.specs.declared.Judged.the-variants.{Fine}
 use Rattle.ground.proofs.Answers.{let-through}
 use Rattle.ground.proofs.Bools.{never, lt-or-ge}
 use Rattle.planfile.specs.Bytes.{Bytes}
-use Rattle.planfile.specs.Causes.{wrongTag}
 use Rattle.planfile.specs.Number.{numberBytes}
 use Rattle.planfile.specs.Format.{tag, headerBytes, rowsBytes, planBytes}
 use Rattle.planfile.specs.FileMeaning.{Step, got, stopped, number, Head, header, Row, row, Rows, rows, Meaning, plan, refused}
@@ -206,8 +205,8 @@ body-accepted bs k ds os h t e =
 
 pub accepted : (bs : List ℕ) (k : Link) (ds os : List ℕ) → Bytes bs → meaning bs ≡ plan k ds os → Accepted bs k ds os
 unfolding meaning
-accepted bs k ds os h e = go (begins tag bs) refl e
+accepted bs k ds os h e = go (begins tag bs) _ refl e
   where
-    go : (b : Bool) → begins tag bs ≡ b → cond b (body bs (length tag)) (refused wrongTag 0) ≡ plan k ds os → Accepted bs k ds os
-    go true t f = body-accepted bs k ds os h (begins-with tag bs t) f
-    go false t f = never (cc)
+    go : (b : Bool) (n : ℕ) → begins tag bs ≡ b → cond b (body bs (length tag)) (refused n 0) ≡ plan k ds os → Accepted bs k ds os
+    go true n t f = body-accepted bs k ds os h (begins-with tag bs t) f
+    go false n t f = never (cc)

@@ -4,12 +4,13 @@ use mathlib.Core.Bool.{true}
 use mathlib.Core.Logic.{_↔_}
 use mathlib.Core.List.{List, [], _∷_, _++_, append-nil}
 use Prim.Native.Nat.{ℕ, _≤_, _<_}
-use lib.ListN.{length, take, drop}
+use native.Mathlib.Omega.{arith}
+use lib.ListN.{length, take, drop, length-append}
 use lib.Seq.{take-append-seam, drop-length}
 use Rattle.ground.specs.Judging.{first}
 use Rattle.ground.specs.Lent.{onFront}
 use Rattle.ground.specs.Protocol.{Outcome, gives, keeping}
-use Rattle.ground.specs.Words.{begins}
+use Rattle.ground.specs.Words.{begins, Differ}
 use Rattle.ground.proofs.Answers.{let-through}
 use Rattle.ground.proofs.Bools.{never}
 use Rattle.ground.proofs.Faults.{front-fine}
@@ -21,12 +22,13 @@ use Rattle.checker.specs.Judging.{clearFaults}
 use Rattle.checker.specs.Order.{FirstCollision}
 use Rattle.checker.proofs.Judging.{clear-fine, fine-clear, unclear}
 use Rattle.planfile.specs.Bytes.{Bytes}
-use Rattle.planfile.specs.Causes.{badFile, leftOver}
+use Rattle.planfile.specs.Causes.{wrongTag, cutOff, leftOver}
 use Rattle.planfile.specs.Number.{moreGroups, limit, numberBytes, readNumber}
 use Rattle.planfile.specs.Format.{tag, planBytes, placeOf}
 use Rattle.planfile.specs.FileMeaning.{got, header, Rows, rows, plan, closing, body, meaning}
 use Rattle.planfile.specs.Answer.{IsFileOf, readSaid, Gives, refuses, readGives, delivered}
 use Rattle.planfile.specs.Answer.{WrittenSaid, writtenSaid, refusesWrite, writeFaults, writeGives}
+use Rattle.planfile.specs.FormFault.{FormFault, wrong-tag, formNumber}
 use Rattle.planfile.specs.declared.Number.the-variants.{Value}
 use Rattle.planfile.specs.declared.PlanRead.{PlanRead}
 use Rattle.planfile.specs.declared.PlanRead.the-variants.{Plan, Refused as ReadRefused}
@@ -35,6 +37,7 @@ use Rattle.planfile.specs.declared.PlanWritten.the-variants.{File, Refus
 use Rattle.planfile.proofs.Accepted.{ClearPlan, means-its-plan, added-means, reads-back, AcceptedFile, accepted-file}
 use Rattle.planfile.proofs.Closing.{left-over, unclear as unclear-closed}
 use Rattle.planfile.proofs.Damage.{cut-anywhere}
+use Rattle.planfile.proofs.FirstFault.{form-fault-refused, form-number, only-form-faults, only-the-tag, refused-means}
 use Rattle.planfile.proofs.Encoding.{number-only, number-reads}
 use Rattle.planfile.proofs.NoSecond.{no-second-reading, no-second-writing}
 use Rattle.planfile.proofs.OneFile.{got-good}
@@ -133,17 +136,69 @@ one-file bs bs′ oldD oldD′ oldO oldO′ h h′ k n ds ds′ os os′ w w′ 
     is-file-of bs oldD oldO ds os (Plan k n) h w ∙ rw (e, f) (sym (is-file-of bs′ oldD′ oldO′ ds′ os′ (Plan k n) h′ w′))
 
 module _ (k : Link) (ds os : List ℕ) (g : GoodPlan k ds os) (oldD oldO : List ℕ) (r : PlanRead) (ds′ os′ : List ℕ) where
-  -- with bytes added at its end a file is 16, at the first of them
+  -- with bytes added at its end a file is 22, at the first of them
   pub bytes-added : (b : ℕ) (bs : List ℕ) → Reads (planBytes k ds os ++ (b ∷ bs)) oldD oldO r ds′ os′
-      → RefusedAt badFile (length (planBytes k ds os)) r oldD ds′ oldO os′
+      → RefusedAt leftOver (length (planBytes k ds os)) r oldD ds′ oldO os′
   unfolding readGives delivered
-  bytes-added b bs = refused-so _ oldD oldO badFile _ (rw (added-means k ds os b bs g))
+  bytes-added b bs = refused-so _ oldD oldO leftOver _ (rw (added-means k ds os b bs g))
 
-  -- cut anywhere it is 16, at the first byte of the tag or number that was cut
+  -- cut anywhere it is 19, at the first byte of the tag or number that was cut
   pub bytes-cut : (m : ℕ) → m < length (planBytes k ds os) → Reads (take m (planBytes k ds os)) oldD oldO r ds′ os′
-      → RefusedAt badFile (placeOf k ds os m) r oldD ds′ oldO os′
+      → RefusedAt cutOff (placeOf k ds os m) r oldD ds′ oldO os′
   unfolding readGives delivered
-  bytes-cut m h = refused-so _ oldD oldO badFile _ (rw (cut-anywhere k ds os m g h))
+  bytes-cut m h = refused-so _ oldD oldO cutOff _ (rw (cut-anywhere k ds os m g h))
+
+-- "only a cut file is worth fetching again": of an accepted file
+module _ (bs oldD oldO : List ℕ) (h : Bytes bs) (k : Link) (n : ℕ) (ds os : List ℕ) (w : Reads bs oldD oldO (Plan k n) ds os)
+    (oldD′ oldO′ : List ℕ) (r : PlanRead) (ds′ os′ : List ℕ) where
+  its-plan : GoodPlan k (take n ds) (take n os)
+  its-plan = let a = accepted-file bs oldD oldO h k n ds os w in rw (a .front-delays, a .front-offsets) (a .clear .0)
+
+  its-bytes : bs ≡ planBytes k (take n ds) (take n os)
+  its-bytes = is-file-of bs oldD oldO ds os (Plan k n) h w
+
+  -- each proper front is 19, and is nothing else
+  pub front-is-cut : (m : ℕ) → m < length bs → Reads (take m bs) oldD′ oldO′ r ds′ os′
+      → RefusedAt cutOff (placeOf k (take n ds) (take n os) m) r oldD′ ds′ oldO′ os′
+  front-is-cut m l v =
+      bytes-cut k (take n ds) (take n os) its-plan oldD′ oldO′ r ds′ os′ m (rw its-bytes at l) (rw its-bytes at v)
+
+  -- with bytes behind it it is 22, at its old length
+  pub more-is-left-over : (b : ℕ) (xs : List ℕ) → Reads (bs ++ (b ∷ xs)) oldD′ oldO′ r ds′ os′
+      → RefusedAt leftOver (length bs) r oldD′ ds′ oldO′ os′
+  more-is-left-over b xs v =
+      rw its-bytes (bytes-added k (take n ds) (take n os) its-plan oldD′ oldO′ r ds′ os′ b xs (rw its-bytes at v))
+
+-- so a file that is refused with another number than 19 is not mended by what is missing: no longer file that begins so is accepted
+pub only-cut-is-mended : (bs oldD oldO : List ℕ) (n at : ℕ) (ds os : List ℕ) → Reads bs oldD oldO (ReadRefused n at) ds os
+    → (n ≡ cutOff → ⊥) → (b : ℕ) (xs oldD′ oldO′ : List ℕ) → Bytes (bs ++ (b ∷ xs)) → (k : Link) (m : ℕ) (ds′ os′ : List ℕ)
+    → Reads (bs ++ (b ∷ xs)) oldD′ oldO′ (Plan k m) ds′ os′ → ⊥
+only-cut-is-mended bs oldD oldO n at ds os w other b xs oldD′ oldO′ h k m ds′ os′ v =
+    let inside : length bs < length (bs ++ (b ∷ xs)) = omega (arith, length-append bs (b ∷ xs)) in
+    let front : take (length bs) (bs ++ (b ∷ xs)) ≡ bs = take-append-seam bs (b ∷ xs) in
+    let longer = bs ++ (b ∷ xs) in
+    let cut = front-is-cut longer oldD′ oldO′ h k m ds′ os′ v oldD oldO (ReadRefused n at) ds os (length bs) inside (rw front w) in
+    other (cc (cut .0))
+
+-- "Please split it by cause": each of 16, 19, 20, 21 and 22 is given exactly where its cause is the first fault
+module _ (bs oldD oldO : List ℕ) (r : PlanRead) (ds os : List ℕ) (w : Reads bs oldD oldO r ds os) (n at : ℕ) where
+  pub told-by-cause : FormFault bs n at ↔ ((r ≡ ReadRefused n at) × (formNumber n ≡ true))
+  unfolding readGives delivered
+  told-by-cause = (there, back)
+    where
+      there : FormFault bs n at → (r ≡ ReadRefused n at) × (formNumber n ≡ true)
+      there f = (refused-so bs oldD oldO n at (rw (form-fault-refused bs n at f)) w .0, form-number bs n at f)
+
+      back : (r ≡ ReadRefused n at) × (formNumber n ≡ true) → FormFault bs n at
+      back f = only-form-faults bs n at (f .1) (refused-means bs oldD oldO ds os n at (f .1) (rw (f .0) at w))
+
+-- "16 keeps the wrong tag", "for the tag always 0"
+pub wrong-tag-exactly : (bs oldD oldO : List ℕ) (r : PlanRead) (ds os : List ℕ) → Reads bs oldD oldO r ds os → (at : ℕ)
+    → (r ≡ ReadRefused wrongTag at) ↔ ((at ≡ 0) × Differ bs tag)
+unfolding formNumber
+wrong-tag-exactly bs oldD oldO r ds os w at =
+    let told = told-by-cause bs oldD oldO r ds os w wrongTag at in
+    ((λ e. only-the-tag bs at (told .1 (e, refl))), (λ t. told .0 (wrong-tag refl (t .0) (t .1)) .0))
 
 -- A number has one encoding: its bytes read as it, and bytes that read as it, to their end, are its bytes.
 pub one-encoding : (bs : List ℕ) (v : ℕ) → Bytes bs → v < limit moreGroups → (readNumber bs ≡ Value v (length bs)) ↔ (bs ≡ numberBytes v)
@@ -155,7 +210,7 @@ one-encoding bs v h l = (there, back)
     back : bs ≡ numberBytes v → readNumber bs ≡ Value v (length bs)
     back e = rw e (rw (append-nil (numberBytes v)) at (number-reads v [] l))
 
--- "After the last number: 16 for bytes left over, then 18, then 11."
+-- "After the last number: .. bytes left over, then 18, then 11."
 module _ (bs : List ℕ) (k : Link) (n at : ℕ) (w : Rows) (end : ℕ) (t : begins tag bs ≡ true)
     (e : header bs (length tag) ≡ got (record { link = k; rows = n }) at) (f : rows bs (k .period) n [] [] at ≡ got w end)
     (oldD oldO : List ℕ) (r : PlanRead) (ds os : List ℕ) (v : Reads bs oldD oldO r ds os) where

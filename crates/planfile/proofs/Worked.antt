@@ -68,7 +68,7 @@ largest-delay = refl
 are-bytes : (bs : List ℕ) → some (λ j. not (ltb (getD bs j 0) 256)) (length bs) ≡ false → Bytes bs
 are-bytes bs e = record { byte = λ i h. ltb-true _ _ (not-false _ (none-has (λ j. not (ltb (getD bs j 0) 256)) (length bs) e i h)) }
 
--- "Number AC 82 00: 16."
+-- "Number AC 82 00": a needless group
 pub encoded-once : numberBytes 300 ≡ 0xAC ∷ 0x02 ∷ []
 unfolding readNumber groupsRead onto ending limit least oneMore
 encoded-once = sym (one-encoding (0xAC ∷ 0x02 ∷ []) 300 (are-bytes (0xAC ∷ 0x02 ∷ []) refl) (omega arith) .0 refl)
@@ -81,7 +81,7 @@ pub first-table-is-clear : ClearPlan firstLink delays offsets
 unfolding clearFaults blocked free hits either start second meets uses least oneMore first outside andThen linkFaults rowFaults offsetFaults
 first-table-is-clear = fine-clear firstLink delays offsets refl
 
-file-bytes : Bytes file
+pub file-bytes : Bytes file
 unfolding least oneMore
 file-bytes = are-bytes file refl
 
@@ -125,7 +125,7 @@ module _ (ds os : List ℕ) (w : Reads file eights eights (Plan firstLink 3) ds 
   the-only-file bs ds′ os′ h v =
       one-file file bs eights eights eights eights file-bytes h firstLink 3 ds ds′ os os′ w v
 
-pub one-byte-added : (r : PlanRead) (ds os : List ℕ) → Reads (file ++ (0 ∷ [])) [] [] r ds os → RefusedAt 16 13 r [] ds [] os
+pub one-byte-added : (r : PlanRead) (ds os : List ℕ) → Reads (file ++ (0 ∷ [])) [] [] r ds os → RefusedAt 22 13 r [] ds [] os
 one-byte-added r ds os =
     rw file-of-the-first-table at (bytes-added firstLink delays offsets (first-table-is-clear .0) [] [] r ds os 0 [])
 
@@ -133,12 +133,12 @@ last-byte : placeOf firstLink delays offsets 12 ≡ 12
 unfolding firstByte planParts numbersParts rowsParts numberBytes groups
 last-byte = refl
 
-pub last-byte-cut : (r : PlanRead) (ds os : List ℕ) → Reads (take 12 file) [] [] r ds os → RefusedAt 16 12 r [] ds [] os
+pub last-byte-cut : (r : PlanRead) (ds os : List ℕ) → Reads (take 12 file) [] [] r ds os → RefusedAt 19 12 r [] ds [] os
 last-byte-cut r ds os =
     rw (file-of-the-first-table, last-byte) at
     (bytes-cut firstLink delays offsets (first-table-is-clear .0) [] [] r ds os 12 (rw file-of-the-first-table (omega arith)))
 
--- period 300, size 2 and one row, cut inside the period's two bytes: 16 at the first of them
+-- period 300, size 2 and one row, cut inside the period's two bytes: 19 at the first of them
 abbrev long-link : Link
 long-link = record { period = 300; size = 2 }
 
@@ -155,7 +155,7 @@ unfolding firstByte planParts numbersParts rowsParts numberBytes groups
 in-the-period = refl
 
 pub period-cut : (r : PlanRead) (ds os : List ℕ) → Reads (0x50 ∷ 0x4D ∷ 0x41 ∷ 0x01 ∷ 0xAC ∷ []) [] [] r ds os
-    → RefusedAt 16 4 r [] ds [] os
+    → RefusedAt 19 4 r [] ds [] os
 period-cut r ds os =
     rw (long-file, in-the-period) at
     (bytes-cut long-link (0 ∷ []) (0 ∷ []) (long-is-clear .0) [] [] r ds os 5 (rw long-file (omega arith)))
@@ -201,8 +201,8 @@ not-read r ds os v =
     [] [] r ds os v unclear-bytes (omega arith) not-clear in
     rw (later-row (w .3)) (w .4)
 
--- and with a byte more it is 16, for that byte comes before 18
-pub left-over-before-18 : (r : PlanRead) (ds os : List ℕ) → Reads (unclear-file ++ (0 ∷ [])) [] [] r ds os → RefusedAt 16 13 r [] ds [] os
+-- and with a byte more it is 22, for that byte comes before 18
+pub left-over-before-18 : (r : PlanRead) (ds os : List ℕ) → Reads (unclear-file ++ (0 ∷ [])) [] [] r ds os → RefusedAt 22 13 r [] ds [] os
 unfolding begins header rows row number readNumber groupsRead onto ending outside
 left-over-before-18 r ds os v =
     left-over-first (unclear-file ++ (0 ∷ [])) firstLink 3 7 (record { delays = delays; offsets = others }) 13 refl refl refl

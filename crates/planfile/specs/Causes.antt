@@ -1,21 +1,17 @@
--- "Anything else in form, including bytes cut off or left over, is 16": the refusal number of each cause.
+-- What is wrong with a file's form: "16 keeps the wrong tag; 19 cut, 20 too long, 21 needless group, 22 left over".
 use Prim.Native.Nat.{ℕ}
 
--- "16 plan file form"
-abbrev pub badFile : ℕ
-badFile = 16
-
 abbrev pub wrongTag : ℕ
-wrongTag = badFile
+wrongTag = 16
 
 abbrev pub cutOff : ℕ
-cutOff = badFile
+cutOff = 19
 
 abbrev pub overlong : ℕ
-overlong = badFile
+overlong = 20
 
 abbrev pub needlessGroup : ℕ
-needlessGroup = badFile
+needlessGroup = 21
 
 abbrev pub leftOver : ℕ
-leftOver = badFile
+leftOver = 22

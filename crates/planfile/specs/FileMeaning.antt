@@ -10,7 +10,7 @@ use Rattle.ground.specs.Words.{begins}
 use Rattle.link.specs.Limits.{maxPeriod, maxDelay, maxRows, badPeriod, badSize, badDelay, badRows, badOffset}
 use Rattle.link.specs.declared.Link.{Link}
 use Rattle.checker.specs.Judging.{clearFaults}
-use Rattle.planfile.specs.Causes.{wrongTag, leftOver}
+use Rattle.planfile.specs.Causes.{wrongTag, cutOff, leftOver}
 use Rattle.planfile.specs.Number.{readNumber, formFault}
 use Rattle.planfile.specs.Format.{tag}
 use Rattle.planfile.specs.declared.Number.{Number}
@@ -31,7 +31,7 @@ abbrev pub passing : {A B : Type 0} → Step A → (A → ℕ → Step B) → St
 passing (got a next) f = f a next
 passing (stopped n p) f = stopped n p
 
--- "Each number is judged as it is read: 16, then its range .. the first byte of the number": the number at a place, from lo to hi
+-- "Each number is judged as it is read": its form, "then its range .. the first byte of the number": the number at a place, from lo to hi
 abbrev pub ranged : Number → ℕ → ℕ → ℕ → ℕ → Step ℕ
 ranged (Value v n) at lo hi fault = cond (outside lo hi v) (stopped fault at) (got v (at + n))
 ranged Cut at lo hi fault = stopped (formFault Cut) at
@@ -53,9 +53,13 @@ header bs at =
     passing (number bs at₂ 1 maxRows badRows) (λ n at₃.
     got (record { link = record { period = p; size = t }; rows = n }) at₃)))
 
+-- a file that does not begin with the tag: "A short file whose bytes so far agree with the tag counts as cut"
+unfoldable pub tagFault : List ℕ → ℕ
+tagFault bs = cond (begins bs tag) cutOff wrongTag
+
 -- "50 4D 41 01": the tag, then the header at a place
 abbrev pub tagged : List ℕ → ℕ → Step Head
-tagged bs at = cond (begins tag bs) (header bs at) (stopped wrongTag 0)
+tagged bs at = cond (begins tag bs) (header bs at) (stopped (tagFault bs) 0)
 
 pub record Row : Type 0 where
   pub delay : ℕ
@@ -87,7 +91,7 @@ abbrev pub means : {A : Type 0} → Step A → (A → ℕ → Meaning) → Meani
 means (got a next) f = f a next
 means (stopped n p) f = refused n p
 
--- "After the last number: 16 for bytes left over, then 18"
+-- "After the last number: .. bytes left over, then 18"
 unfoldable pub closing : List ℕ → Link → List ℕ → List ℕ → ℕ → Meaning
 closing bs k ds os at = cond (ltb at (length bs)) (refused leftOver at) (unless refused (first (clearFaults k ds os)) (plan k ds os))
 
@@ -101,4 +105,4 @@ unfoldable pub body : List ℕ → ℕ → Meaning
 body bs at = means (header bs at) (λ h next. rest bs h next)
 
 unfoldable pub meaning : List ℕ → Meaning
-meaning bs = cond (begins tag bs) (body bs (length tag)) (refused wrongTag 0)
+meaning bs = cond (begins tag bs) (body bs (length tag)) (refused (tagFault bs) 0)

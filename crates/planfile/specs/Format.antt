@@ -43,7 +43,7 @@ unfoldable pub firstByte : List (List ℕ) → ℕ → ℕ → ℕ
 firstByte [] at m = at
 firstByte (part ∷ parts) at m = cond (ltb m (at + length part)) at (firstByte parts (at + length part) m)
 
--- "The place for 16 is the first byte of the tag, number or leftover at fault (for the tag always 0)", where byte m is at fault
+-- "The place .. is the first byte of the tag, number or leftover at fault (for the tag always 0)", where byte m is at fault
 abbrev pub placeOf : Link → List ℕ → List ℕ → ℕ → ℕ
 placeOf k ds os m = firstByte (planParts k ds os) 0 m
 

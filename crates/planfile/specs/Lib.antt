@@ -5,3 +5,4 @@ pub mod Number
 pub mod Format
 pub mod FileMeaning
 pub mod Answer
+pub mod FormFault

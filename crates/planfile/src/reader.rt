@@ -6,6 +6,7 @@ use crate::RowRead;
 use crate::RowsRead;
 use crate::TAG;
 use crate::Taken;
+use crate::causes::CUT;
 use crate::causes::LEFT_OVER;
 use crate::causes::WRONG_TAG;
 use crate::groups;
@@ -25,7 +26,7 @@ ghost use mathlib.Core.List.{[]};
 ghost use Prim.Native.Nat.{_≤_, _<_};
 ghost use lib.ListN.{length, take};
 ghost use Rattle.planfile.specs.Bytes.{Bytes};
-ghost use Rattle.planfile.specs.FileMeaning.{after, number as numberOf, header, tagged, row, rows as rowsOf};
+ghost use Rattle.planfile.specs.FileMeaning.{after, number as numberOf, header, tagFault, tagged, row, rows as rowsOf};
 ghost use Rattle.planfile.specs.Answer.{taken, headed, InRange, rowed, rowsed, Gives, closes, restGives};
 
 // The number at a place: its form, then its range.
@@ -96,13 +97,23 @@ fn read_numbers(bytes: &[u8], at: usize) -> Header
     }
 }
 
+// What is wrong with a file that does not begin with the tag: it ends inside it, or it is none.
+fn tag_fault(bytes: &[u8]) -> u32
+    ensures { λ r. ⌜ r ≡ tagFault (now (bytes .entry)) ⌝ }
+{
+    if ground::begins(bytes, &TAG) {
+        return CUT;
+    }
+    WRONG_TAG
+}
+
 // The tag, and the header at a place.
 pub fn read_header(bytes: &[u8], at: usize) -> Header
     ensures { λ r. ⌜ (headed r ≡ tagged (now (bytes .entry)) at) × Bytes (now (bytes .entry)) ⌝ }
 {
     if !ground::begins(&TAG, bytes) {
         return Header::Refused {
-            number: WRONG_TAG,
+            number: tag_fault(bytes),
             place: 0,
         };
     }
@@ -185,7 +196,7 @@ fn read_rows(
     RowsRead::End { next: at }
 }
 
-// After the last number: 16 for bytes left over, 18, 11; then the rows are copied out.
+// After the last number: 22 for bytes left over, 18, 11; then the rows are copied out.
 fn close(
     bytes: &[u8],
     end: usize,

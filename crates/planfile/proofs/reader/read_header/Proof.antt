@@ -14,12 +14,16 @@ slice-aggregate-begins c = search needs
 begins-requires : tie.Need-begins-requires
 begins-requires c κs = search needs
 
+tag-fault-requires : tie.Need-tag-fault-requires
+tag-fault-requires c κs = search needs
+
 returns : tie.Need-returns
 unfolding headed
-returns c = (
-  sym (no-tag _ _ (sym (c .before .begins .ensures) ∙ not-true _ (c .if1 .taken))),
-  record { byte = λ i _. omega (arith, c .before .before .before .shared-slice-known .given i) },
-)
+returns c =
+    let no-tag-read = sym (c .before .before .begins .ensures) ∙ not-true _ (c .before .if1 .taken) in (
+      sym (rw (c .tag-fault .ensures) (no-tag _ _ no-tag-read)),
+      record { byte = λ i _. omega (arith, c .before .before .before .before .shared-slice-known .given i) },
+    )
 
 read-numbers-requires : tie.Need-read-numbers-requires
 read-numbers-requires c κs = search needs
@@ -32,4 +36,5 @@ returns-2 c =
     )
 
 pub read-header-spec : {M : Type 1} → statement M
-read-header-spec = tie.close (tie.spec slice-aggregate-begins begins-requires returns read-numbers-requires returns-2)
+read-header-spec =
+    tie.close (tie.spec slice-aggregate-begins begins-requires tag-fault-requires returns read-numbers-requires returns-2)
