@@ -1,5 +1,5 @@
-/* Plans a table with the exact planner, writes the plan file, reads it back, checks it and reports
- * its stretches. Exit status 1 if anything is not as it should be. */
+/* Plans a table with the exact planner, writes the plan file, reads it back, whole and cut, checks it
+ * and reports its stretches. Exit status 1 if anything is not as it should be. */
 #include <inttypes.h>
 #include <stdio.h>
 #include <string.h>
@@ -18,6 +18,17 @@ static int failed(const char *step, uint64_t number, uint64_t place)
     printf("%s: not as it should be; refusal %" PRIu64 " at %" PRIu64 ": %s\n", step, number, place,
            seamwhisk_refusal(number));
     return 1;
+}
+
+/* Whether a file is worth fetching again: it was cut on its way. No other refusal is mended by bytes
+ * that are missing. */
+static int is_cut(const uint8_t *file, size_t length)
+{
+    uint32_t lists[2][SEAMWHISK_MAX_ROWS];
+    seamwhisk_read answer;
+    seamwhisk_read_plan(file, length, lists[0], SEAMWHISK_MAX_ROWS, lists[1], SEAMWHISK_MAX_ROWS,
+                        &answer);
+    return answer.number == SEAMWHISK_FILE_CUT;
 }
 
 int main(void)
@@ -50,6 +61,10 @@ int main(void)
         return failed("read", back.number, back.place);
     printf("read: period %" PRIu64 ", size %" PRIu64 ", %" PRIu64 " rows, the same plan\n",
            back.period, back.size, back.rows);
+    for (size_t length = 0; length <= written.length; length++)
+        if (is_cut(file, length) != (length < written.length))
+            return failed("cut", back.number, length);
+    printf("cut: worth fetching again, wherever it was cut\n");
 
     seamwhisk_checked checked;
     seamwhisk_check(PERIOD, SIZE, delays_back, ROWS, offsets_back, ROWS, &checked);

@@ -25,7 +25,7 @@ use Rattle.planfile.specs.Format.{tag}
 use Rattle.planfile.specs.FileMeaning.{Step, got, stopped, ranged, number, Head, header, tagFault, row, rows}
 use Rattle.planfile.specs.FileMeaning.{Meaning, plan, refused, closing, rest, body, meaning}
 use Rattle.planfile.specs.Answer.{readSaid, lists, ReadGives, Gives, refuses, delivers, delivered, readGives}
-use Rattle.planfile.specs.FormFault.{NumberFault, cut, too-long, needless, RowAt, NumberAt, period, size, many, delay, offset}
+use Rattle.planfile.specs.FormFault.{NumberFault, cut, too-long, needless, RowAt, NumberAt, period, size, row-count, delay, offset}
 use Rattle.planfile.specs.FormFault.{FormFault, wrong-tag, cut-tag, bad-number, left-over, formNumber}
 use Rattle.planfile.specs.declared.PlanRead.the-variants.{Refused}
 use Rattle.planfile.specs.declared.Number.{Number}
@@ -73,7 +73,7 @@ module _ (bs : List ℕ) (n : ℕ) where
       (λ p at₁ g₁ e₁. stop-in (number bs at₁ 1 p badSize) _ n q e₁
       (stops-at at₁ (size p g₁) 1 p badSize q f refl)
       (λ t at₂ g₂ e₂. stop-in (number bs at₂ 1 maxRows badRows) _ n q e₂
-      (stops-at at₂ (many p t at₁ g₁ g₂) 1 maxRows badRows q f refl)
+      (stops-at at₂ (row-count p t at₁ g₁ g₂) 1 maxRows badRows q f refl)
       (λ m at₃ g₃ e₃. never (cc e₃))))
 
   row-stops : (h : Head) (i at q : ℕ) → i < h .rows → RowAt bs h i at → formNumber n ≡ true → row bs (h .link .period) at ≡ stopped n q →
@@ -167,7 +167,7 @@ module _ (bs : List ℕ) (n q : ℕ) where
   unfolding header row
   body-refused (period e) x = header-refused (rw (e, rw e at (number-refused q 1 maxPeriod badPeriod x)))
   body-refused (size p g) x = header-refused (rw (g, number-refused q 1 p badSize x))
-  body-refused (many p t next g₁ g₂) x = header-refused (rw (g₁, g₂, number-refused q 1 maxRows badRows x))
+  body-refused (row-count p t next g₁ g₂) x = header-refused (rw (g₁, g₂, number-refused q 1 maxRows badRows x))
   body-refused (delay h i l w) x = row-refused h i q l w (rw (number-refused q 0 maxDelay badDelay x))
   body-refused (offset h i d next l w g) x =
       row-refused h i next l w (rw (g, number-refused q 0 (h .link .period - 1) badOffset x))

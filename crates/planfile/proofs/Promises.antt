@@ -25,7 +25,7 @@ use Rattle.planfile.specs.Bytes.{Bytes}
 use Rattle.planfile.specs.Causes.{wrongTag, cutOff, leftOver}
 use Rattle.planfile.specs.Number.{moreGroups, limit, numberBytes, readNumber}
 use Rattle.planfile.specs.Format.{tag, planBytes, placeOf}
-use Rattle.planfile.specs.FileMeaning.{got, header, Rows, rows, plan, closing, body, meaning}
+use Rattle.planfile.specs.FileMeaning.{got, header, Rows, rows, plan, refused, closing, body, meaning}
 use Rattle.planfile.specs.Answer.{IsFileOf, readSaid, Gives, refuses, readGives, delivered}
 use Rattle.planfile.specs.Answer.{WrittenSaid, writtenSaid, refusesWrite, writeFaults, writeGives}
 use Rattle.planfile.specs.FormFault.{FormFault, wrong-tag, formNumber}
@@ -191,6 +191,12 @@ module _ (bs oldD oldO : List ℕ) (r : PlanRead) (ds os : List ℕ) (w : Reads 
 
       back : (r ≡ ReadRefused n at) × (formNumber n ≡ true) → FormFault bs n at
       back f = only-form-faults bs n at (f .1) (refused-means bs oldD oldO ds os n at (f .1) (rw (f .0) at w))
+
+-- no file has two of these faults
+pub one-cause : (bs : List ℕ) (n n′ at at′ : ℕ) → FormFault bs n at → FormFault bs n′ at′ → (n ≡ n′) × (at ≡ at′)
+one-cause bs n n′ at at′ f g =
+    let same : refused n at ≡ refused n′ at′ = sym (form-fault-refused bs n at f) ∙ form-fault-refused bs n′ at′ g in
+    (cc, cc)
 
 -- "16 keeps the wrong tag", "for the tag always 0"
 pub wrong-tag-exactly : (bs oldD oldO : List ℕ) (r : PlanRead) (ds os : List ℕ) → Reads bs oldD oldO r ds os → (at : ℕ)

@@ -17,12 +17,12 @@ use Rattle.planfile.specs.Number.{ending, onto, groupsRead, readNumber, 
 use Rattle.planfile.specs.Format.{tag, planParts, firstByte}
 use Rattle.planfile.specs.FileMeaning.{number, Head, header, row, rows, body, meaning}
 use Rattle.planfile.specs.Answer.{readSaid, delivered, readGives}
-use Rattle.planfile.specs.FormFault.{TopBits, EndsInTag, cut, too-long, needless, RowAt, period, size, many, delay, offset}
+use Rattle.planfile.specs.FormFault.{TopBits, EndsInTag, cut, too-long, needless, RowAt, period, size, row-count, delay, offset}
 use Rattle.planfile.specs.FormFault.{FormFault, wrong-tag, cut-tag, bad-number, left-over}
 use Rattle.planfile.specs.declared.PlanRead.{PlanRead}
 use Rattle.planfile.specs.declared.PlanRead.the-variants.{Plan, Refused}
 use Rattle.planfile.proofs.Promises.{Reads, RefusedAt, front-is-cut, more-is-left-over, only-cut-is-mended}
-use Rattle.planfile.proofs.Promises.{told-by-cause, wrong-tag-exactly}
+use Rattle.planfile.proofs.Promises.{told-by-cause, one-cause, wrong-tag-exactly}
 use Rattle.planfile.proofs.Worked.{firstLink, delays, offsets, file, file-bytes}
 
 -- bytes whose tests have been computed
@@ -65,10 +65,27 @@ pub three-top-bits : Refuses (behind-tag (0x80 ∷ 0x80 ∷ 0x80 ∷ [])) 19 4
 unfolding begins least oneMore
 three-top-bits = answers _ 19 4 (bad-number refl (period refl) (cut refl (omega arith) (top-bits 3 (0x80 ∷ 0x80 ∷ 0x80 ∷ []) refl)))
 
-pub four-top-bits : Refuses (behind-tag (0x80 ∷ 0x80 ∷ 0x80 ∷ 0x80 ∷ [])) 20 4
+abbrev four : List ℕ
+four = 0x80 ∷ 0x80 ∷ 0x80 ∷ 0x80 ∷ []
+
+four-are-too-many : FormFault (behind-tag four) 20 4
 unfolding begins least oneMore
-four-top-bits =
-    answers _ 20 4 (bad-number refl (period refl) (too-long refl (omega arith) (top-bits 4 (0x80 ∷ 0x80 ∷ 0x80 ∷ 0x80 ∷ []) refl)))
+four-are-too-many = bad-number refl (period refl) (too-long refl (omega arith) (top-bits 4 four refl))
+
+pub four-top-bits : Refuses (behind-tag four) 20 4
+four-top-bits = answers _ 20 4 four-are-too-many
+
+pub nothing-else-is-wrong : (n at : ℕ) → FormFault (behind-tag four) n at → (n ≡ 20) × (at ≡ 4)
+nothing-else-is-wrong n at f = one-cause (behind-tag four) n 20 at 4 f four-are-too-many
+
+-- no bytes behind them make a file that is accepted
+read-so : Reads (behind-tag four) [] [] (Refused 20 4) [] []
+unfolding readSaid readGives delivered meaning body header number readNumber groupsRead onto formFault begins
+read-so = refl
+
+pub never-mended : (b : ℕ) (xs oldD oldO : List ℕ) → Bytes (behind-tag (four ++ (b ∷ xs))) → (k : Link) (m : ℕ)
+    → (ds os : List ℕ) → Reads (behind-tag (four ++ (b ∷ xs))) oldD oldO (Plan k m) ds os → ⊥
+never-mended = only-cut-is-mended (behind-tag four) [] [] 20 4 [] [] read-so (λ e. omega arith)
 
 pub fourth-byte-0 : Refuses (behind-tag (0x80 ∷ 0x80 ∷ 0x80 ∷ 0x00 ∷ [])) 21 4
 unfolding begins least oneMore
@@ -77,16 +94,7 @@ fourth-byte-0 =
     (bad-number refl (period refl)
     (needless refl 3 (omega arith) (omega arith) (omega arith) (top-bits 3 (0x80 ∷ 0x80 ∷ 0x80 ∷ 0x00 ∷ []) refl) refl))
 
--- and no bytes behind those four make a file that is accepted
-read-so : Reads (behind-tag (0x80 ∷ 0x80 ∷ 0x80 ∷ 0x80 ∷ [])) [] [] (Refused 20 4) [] []
-unfolding readSaid readGives delivered meaning body header number readNumber groupsRead onto formFault begins
-read-so = refl
-
-pub never-mended : (b : ℕ) (xs oldD oldO : List ℕ) → Bytes (behind-tag (0x80 ∷ 0x80 ∷ 0x80 ∷ 0x80 ∷ b ∷ xs)) → (k : Link) (m : ℕ)
-    → (ds os : List ℕ) → Reads (behind-tag (0x80 ∷ 0x80 ∷ 0x80 ∷ 0x80 ∷ b ∷ xs)) oldD oldO (Plan k m) ds os → ⊥
-never-mended = only-cut-is-mended (behind-tag (0x80 ∷ 0x80 ∷ 0x80 ∷ 0x80 ∷ [])) [] [] 20 4 [] [] read-so (λ e. omega arith)
-
--- the same forms at each other number: the size cut, the rows too long, "AC 82 00" as row 0's delay and as its offset
+-- the same forms at each other number: the size cut, the number of rows too long, a needless group in row 0's delay and in its offset
 pub size-cut : Refuses (behind-tag (0x0A ∷ [])) 19 5
 unfolding begins number readNumber groupsRead onto ending outside least oneMore
 size-cut = answers _ 19 5 (bad-number refl (size 10 refl) (cut refl (omega arith) (top-bits 0 [] refl)))
@@ -95,7 +103,7 @@ pub rows-too-long : Refuses (behind-tag (0x0A ∷ 0x02 ∷ 0xFF ∷ 0xFF ∷ 0xF
 unfolding begins number readNumber groupsRead onto ending outside least oneMore
 rows-too-long =
     answers _ 20 6
-    (bad-number refl (many 10 2 5 refl refl) (too-long refl (omega arith) (top-bits 4 (0xFF ∷ 0xFF ∷ 0xFF ∷ 0xFF ∷ []) refl)))
+    (bad-number refl (row-count 10 2 5 refl refl) (too-long refl (omega arith) (top-bits 4 (0xFF ∷ 0xFF ∷ 0xFF ∷ 0xFF ∷ []) refl)))
 
 abbrev one-row : Head
 one-row = record { link = firstLink; rows = 1 }

@@ -30,28 +30,30 @@ pub data NumberFault (bs : List ℕ) (n : ℕ) : Type 0 where
   -- "number with a needless zero group": it ends in a zero byte, which is not its first
   needless : n ≡ needlessGroup → (m : ℕ) → 1 ≤ m → m ≤ moreGroups → m < length bs → TopBits m bs → getD bs m 0 ≡ 0 → NumberFault bs n
 
--- row i, of the rows behind the header h, begins at a place: every number before it is of its form and in its range
+-- "Each number is judged as it is read": the reader comes to a place only where every number before it is of its form and in its range;
+-- to row i, of the rows behind the header h,
 pub record RowAt (bs : List ℕ) (h : Head) (i at : ℕ) : Type 0 where
   pub from : ℕ
   pub above : Rows
   pub headed : header bs (length tag) ≡ got h from
   pub rowed : rows bs (h .link .period) i [] [] from ≡ got above at
 
--- a number begins at a place, and the same holds of every number before it
+-- and to a number
 pub data NumberAt (bs : List ℕ) (at : ℕ) : Type 0 where
   period : at ≡ length tag → NumberAt bs at
   size : (p : ℕ) → number bs (length tag) 1 maxPeriod badPeriod ≡ got p at → NumberAt bs at
-  many : (p t next : ℕ) → number bs (length tag) 1 maxPeriod badPeriod ≡ got p next → number bs next 1 p badSize ≡ got t at → NumberAt bs at
+  row-count : (p t next : ℕ) → number bs (length tag) 1 maxPeriod badPeriod ≡ got p next → number bs next 1 p badSize ≡ got t at →
+      NumberAt bs at
   delay : (h : Head) (i : ℕ) → i < h .rows → RowAt bs h i at → NumberAt bs at
   offset : (h : Head) (i d next : ℕ) → i < h .rows → RowAt bs h i next → number bs next 0 maxDelay badDelay ≡ got d at → NumberAt bs at
 
--- the first fault of a file is one of form: its number and its place
+-- the first fault of a file, where it is one of form: its number and its place
 pub data FormFault (bs : List ℕ) (n at : ℕ) : Type 0 where
   -- "tag wrong": one of the bytes that are there is not the tag's
   wrong-tag : n ≡ wrongTag → at ≡ 0 → Differ bs tag → FormFault bs n at
   cut-tag : n ≡ cutOff → at ≡ 0 → EndsInTag bs → FormFault bs n at
   bad-number : begins tag bs ≡ true → NumberAt bs at → NumberFault (drop at bs) n → FormFault bs n at
-  -- where a row after the last would begin
+  -- "bytes left over", where a row after the last would begin
   left-over : n ≡ leftOver → begins tag bs ≡ true → (h : Head) → RowAt bs h (h .rows) at → at < length bs → FormFault bs n at
 
 -- the five numbers
