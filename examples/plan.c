@@ -1,5 +1,5 @@
-/* Plans a table with the exact planner, writes the plan file, reads it back, whole and cut, checks it
- * and reports its stretches. Exit status 1 if anything is not as it should be. */
+/* Plans a table with the exact planner, writes the plan file, reads it back, whole and cut, checks
+ * it and reports its stretches. Exit status 1 if anything is not as it should be. */
 #include <inttypes.h>
 #include <stdio.h>
 #include <string.h>
@@ -20,8 +20,8 @@ static int failed(const char *step, uint64_t number, uint64_t place)
     return 1;
 }
 
-/* Whether a file is worth fetching again: it was cut on its way. No other refusal is mended by bytes
- * that are missing. */
+/* Whether a file is worth fetching again: it was cut on its way. No other refusal is mended by
+ * bytes that are missing. */
 static int is_cut(const uint8_t *file, size_t length)
 {
     uint32_t lists[2][SEAMWHISK_MAX_ROWS];

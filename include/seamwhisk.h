@@ -70,10 +70,6 @@ enum seamwhisk_refusal {
     SEAMWHISK_FILE_AFTER = 22    /* plan file: bytes are left over [byte] */
 };
 
-/* What to do about a plan file: at 19 fetch it again; at 16 it is no plan file, or of a later
- * version; at any other number but 11 its sender is at fault. A file that the writer wrote and that
- * was cut anywhere gets 19 and no other number. */
-
 /* What a refusal number means, in one line. */
 static inline const char *seamwhisk_refusal(uint64_t number)
 {
@@ -254,6 +250,9 @@ void seamwhisk_write_plan(uint32_t period, uint32_t size, const uint32_t *delays
  * delays_room or offsets_room is below the rows read. The place is the first byte of the number
  * (the length of the file where it has no byte at all) or of the bytes left over; for the tag and
  * for 11 it is 0, for 18 the later row.
+ * At 19 fetch the file again: a file that the writer wrote and that was cut, anywhere, gets 19 and
+ * no other number, and no other refusal is mended by bytes that are missing. At 16 it is no plan
+ * file, or one of a later version. At the others, 11 apart, its sender is at fault.
  * Otherwise number is 0; period, size and rows are those of the file; delays[0] to delays[rows-1]
  * and offsets[0] to offsets[rows-1] are its delays and offsets. */
 void seamwhisk_read_plan(const uint8_t *file, size_t length, uint32_t *delays, size_t delays_room,
