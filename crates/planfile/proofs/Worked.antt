@@ -92,7 +92,7 @@ file-means-the-first-table = rw file-of-the-first-table at (means-its-plan first
 abbrev buffer : List ℕ
 buffer = replicate 15 9
 
-abbrev eights : List ℕ
+abbrev pub eights : List ℕ
 eights = 8 ∷ 8 ∷ 8 ∷ 8 ∷ []
 
 -- whatever the writer answers, and the reader of what it wrote

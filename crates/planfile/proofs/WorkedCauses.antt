@@ -23,7 +23,9 @@ use Rattle.planfile.specs.declared.PlanRead.{PlanRead}
 use Rattle.planfile.specs.declared.PlanRead.the-variants.{Plan, Refused}
 use Rattle.planfile.proofs.Promises.{Reads, RefusedAt, front-is-cut, more-is-left-over, only-cut-is-mended}
 use Rattle.planfile.proofs.Promises.{told-by-cause, one-cause, wrong-tag-exactly}
-use Rattle.planfile.proofs.Worked.{firstLink, delays, offsets, file, file-bytes}
+use Rattle.planfile.proofs.Accepted.{reads-back}
+use Rattle.planfile.proofs.Worked.{firstLink, delays, offsets, file, file-of-the-first-table, first-table-is-clear}
+use Rattle.planfile.proofs.Worked.{file-bytes, eights}
 
 -- bytes whose tests have been computed
 ends-in-tag : (bs : List ℕ) → length bs < 4 → some (λ i. not (eqb (getD bs i 0) (getD tag i 0))) (length bs) ≡ false → EndsInTag bs
@@ -137,14 +139,16 @@ one-left-over =
     (left-over refl refl one-row
     (record { from = 7; above = record { delays = 0 ∷ []; offsets = 0 ∷ [] }; headed = refl; rowed = refl }) (omega arith))
 
--- fronts of the first table's file, once it was read, and a byte behind it
-abbrev eights : List ℕ
-eights = 8 ∷ 8 ∷ 8 ∷ []
+-- the first table's file is accepted; its first two bytes, and the file with a byte behind it
+file-read : Reads file eights eights (Plan firstLink 3) (0 ∷ 3 ∷ 7 ∷ 8 ∷ []) (0 ∷ 2 ∷ 5 ∷ 8 ∷ [])
+unfolding readSaid
+file-read =
+    rw file-of-the-first-table at (reads-back firstLink delays offsets first-table-is-clear eights eights (omega arith) (omega arith))
 
-module _ (ds os : List ℕ) (w : Reads file eights eights (Plan firstLink 3) ds os) (r : PlanRead) (ds′ os′ : List ℕ) where
-  pub two-bytes-of-it : Reads (0x50 ∷ 0x4D ∷ []) [] [] r ds′ os′ → RefusedAt 19 0 r [] ds′ [] os′
+module _ (r : PlanRead) (ds os : List ℕ) where
+  pub two-bytes-of-it : Reads (0x50 ∷ 0x4D ∷ []) [] [] r ds os → RefusedAt 19 0 r [] ds [] os
   unfolding firstByte planParts
-  two-bytes-of-it = front-is-cut file _ _ file-bytes firstLink 3 ds os w [] [] r ds′ os′ 2 (omega arith)
+  two-bytes-of-it = front-is-cut file eights eights file-bytes firstLink 3 _ _ file-read [] [] r ds os 2 (omega arith)
 
-  pub one-byte-behind-it : Reads (file ++ (0 ∷ [])) [] [] r ds′ os′ → RefusedAt 22 13 r [] ds′ [] os′
-  one-byte-behind-it = more-is-left-over file _ _ file-bytes firstLink 3 ds os w [] [] r ds′ os′ 0 []
+  pub one-byte-behind-it : Reads (file ++ (0 ∷ [])) [] [] r ds os → RefusedAt 22 13 r [] ds [] os
+  one-byte-behind-it = more-is-left-over file eights eights file-bytes firstLink 3 _ _ file-read [] [] r ds os 0 []
