@@ -1,13 +1,15 @@
--- Counting the numbers below n that have a test: gaps, runs, two tests that exclude each other, and the rest; and those of a list.
--- Assumes nothing.
-use mathlib.Core.Path.{_≡_, refl, _∙_, ap}
-use mathlib.Core.Bool.{Bool, true, false, not, cond, _||_}
+-- Counting the numbers below n that have a test: gaps, runs, two tests that exclude each other, and the rest; round a circle; by their
+-- places; and those of a list. Assumes nothing.
+use mathlib.Core.Path.{_≡_, refl, sym, _∙_, ap}
+use mathlib.Core.Bool.{Bool, true, false, not, cond, _&&_, _||_, and-true}
 use mathlib.Core.List.{List, [], _∷_, List·Memᴰ, List·Memᴰ·head, List·Memᴰ·tail}
 use mathlib.Core.Logic.{⊎-elim}
 use Prim.Native.Nat.{ℕ, zero, suc, _+_, _-_, _≤_, _<_}
 use native.Mathlib.Omega.{arith}
+use lib.Dec.{eqb}
 use lib.ListN.{length}
-use Rattle.ground.proofs.Bools.{lt-or-ge, is-false, true-or-false}
+use borrow.Author.Tests.{eqb-true, eqb-false, not-true}
+use Rattle.ground.proofs.Bools.{clash, is-false, and-parts, true-or-false, lt-or-ge}
 use Rattle.ground.specs.Count.{count, countIn}
 
 -- what no number from x to before y changes is at y what it was at x
@@ -109,6 +111,65 @@ count-front q zero = refl
 count-front q (suc n) =
     ⊎-elim (λ e. omega (arith, count-in q (suc n) e, count-in (λ i. q (suc i)) n e, count-front q n))
     (λ e. omega (arith, count-out q (suc n) e, count-out (λ i. q (suc i)) n e, count-front q n)) (true-or-false (q (suc n)))
+
+-- once round a circle of p numbers, from wherever one begins
+pub count-turn : (q : ℕ → Bool) (p : ℕ) → ((x : ℕ) → q (x + p) ≡ q x) → (r : ℕ) → count (λ s. q (s + r)) p ≡ count q p
+count-turn q p h zero = count-cong (λ s. q (s + 0)) q p (λ s _. let e : s + 0 ≡ s = omega arith in rw e)
+count-turn q p h (suc r) =
+    let here = count-front (λ s. q (s + r)) p in
+    let on = count-cong (λ s. q (s + suc r)) (λ s. q (suc s + r)) p (λ s _. let e : s + suc r ≡ suc s + r = omega arith in rw e) in
+    let e : p + r ≡ 0 + r + p = omega arith in
+    let last : q (p + r) ≡ q (0 + r) = rw e (h (0 + r)) in
+    ⊎-elim (λ t. omega (arith, on, here, rw t at here, count-in (λ s. q (s + r)) p (last ∙ t), count-turn q p h r))
+    (λ t. omega (arith, on, here, rw t at here, count-out (λ s. q (s + r)) p (last ∙ t), count-turn q p h r)) (true-or-false (q (0 + r)))
+
+-- f, but not at a
+abbrev without : (ℕ → Bool) → ℕ → ℕ → Bool
+without f a s = f s && not (eqb s a)
+
+without-it : (f : ℕ → Bool) (a : ℕ) → without f a a ≡ false
+without-it f a = is-false _ (λ t. eqb-false a a (not-true _ (and-parts (f a) (not (eqb a a)) t .1)) refl)
+
+without-else : (f : ℕ → Bool) (a s : ℕ) → (s ≡ a → ⊥) → f s ≡ without f a s
+without-else f a s d = rw (is-false (eqb s a) (λ t. d (eqb-true _ _ t)), and-true)
+
+earlier : (i n : ℕ) → i < suc n → (i ≡ n → ⊥) → i < n
+earlier i n l d = ⊎-elim (λ m. m) (λ m. absurd (d (omega arith))) (lt-or-ge i n)
+
+-- each number below p that has f is one of the places e 0, .., e (n-1)
+abbrev pub Placed : (ℕ → Bool) → ℕ → (ℕ → ℕ) → ℕ → Type 0
+Placed f p e n = (s : ℕ) → s < p → f s ≡ true → (i : ℕ) × (i < n) × (e i ≡ s)
+
+module _ (f : ℕ → Bool) (p : ℕ) (e : ℕ → ℕ) (n : ℕ) (h : Placed f p e (suc n)) where
+  placed-without : Placed (without f (e n)) p e n
+  placed-without s l u =
+      let v = and-parts (f s) (not (eqb s (e n))) u in
+      let w = h s l (v .0) in
+      (w .0, earlier (w .0) n (w .1) (λ d. eqb-false s (e n) (not-true _ (v .1)) (sym (w .2) ∙ ap e d)), w .2)
+
+  placed-out : f (e n) ≡ false → Placed f p e n
+  placed-out t s l u = let w = h s l u in (w .0, earlier (w .0) n (w .1) (λ d. clash (rw (← d, w .2) u) t), w .2)
+
+-- where no two places are the same, there are as many numbers below p that have f as places that have it
+pub count-places : (f : ℕ → Bool) (p : ℕ) (e : ℕ → ℕ) (n : ℕ) → ((i : ℕ) → i < n → e i < p)
+    → ((i j : ℕ) → i < j → j < n → e i ≡ e j → ⊥) → Placed f p e n → count f p ≡ count (λ i. f (e i)) n
+unfolding count
+count-places f p e zero low apart h =
+    count-gap f 0 p (omega arith) (λ s _ l. is-false (f s) (λ t. let w = h s l t in omega (arith, w .1)))
+count-places f p e (suc n) low apart h =
+    let lower : (i : ℕ) → i < n → e i < p = λ i l. low i (omega arith) in
+    let differ : (i j : ℕ) → i < j → j < n → e i ≡ e j → ⊥ = λ i j l m. apart i j l (omega arith) in
+    ⊎-elim (λ t. in-last t (count-places (without f (e n)) p e n lower differ (placed-without f p e n h)))
+    (λ t. count-places f p e n lower differ (placed-out f p e n h t) ∙ sym (count-out (λ i. f (e i)) n t)) (true-or-false (f (e n)))
+  where
+    -- the last place, and the others
+    in-last : f (e n) ≡ true → count (without f (e n)) p ≡ count (λ i. without f (e n) (e i)) n
+        → count f p ≡ count (λ i. f (e i)) (suc n)
+    in-last t others =
+        let same : (i : ℕ) → i < n → without f (e n) (e i) ≡ f (e i) =
+        λ i l. sym (without-else f (e n) (e i) (apart i n l (omega arith))) in
+        count-less f (without f (e n)) (e n) p (low n (omega arith)) t (without-it f (e n)) (without-else f (e n))
+        ∙ ap suc (others ∙ count-cong (λ i. without f (e n) (e i)) (λ i. f (e i)) n same) ∙ sym (count-in (λ i. f (e i)) n t)
 
 -- of a list: none that is not counted, and no more than there are
 pub count-in-none : {A : Type 0} (f : A → Bool) (xs : List A) → ((x : A) → List·Memᴰ x xs → f x ≡ false) → countIn f xs ≡ 0

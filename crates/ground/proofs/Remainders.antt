@@ -1,4 +1,4 @@
--- Round a circle of p numbers by d and back again. Assumes nothing.
+-- Round a circle of p numbers by d, and back again. Assumes nothing.
 use mathlib.Core.Path.{_≡_, sym, ap, _∙_}
 use Prim.Native.Nat.{ℕ, _+_, _-_, _%_, _<_}
 use native.Mathlib.Omega.{arith}
@@ -17,3 +17,11 @@ module _ (p : ℕ) (some : 0 < p) (d x : ℕ) where
       let l = mod-lt d some in
       let e : x + (p - d % p) + d % p ≡ x + p = omega arith in
       mod-add-mod (x + (p - d % p)) p d ∙ sym (add-mod-mod (x + (p - d % p)) d p) ∙ ap (λ (y : ℕ). y % p) e ∙ add-mod-right x p
+
+-- two that are the same place on the circle are so d further on, and were so d before
+pub same-on : (p x y d : ℕ) → x % p ≡ y % p → (x + d) % p ≡ (y + d) % p
+same-on p x y d e = sym (mod-add-mod x p d) ∙ ap (λ (z : ℕ). (z + d) % p) e ∙ mod-add-mod y p d
+
+pub same-back : (p x y d : ℕ) → 0 < p → (x + d) % p ≡ (y + d) % p → x % p ≡ y % p
+same-back p x y d some e =
+    sym (there-and-back p some d x) ∙ ap (λ (z : ℕ). (z + (p - d % p)) % p) e ∙ there-and-back p some d y
