@@ -1,24 +1,26 @@
 -- A plan is let through exactly where its values are in range and it is clear; one that is not clear gets 18, at the later row of the
--- first collision; and the checker's answer says the same. Assumes nothing.
-use mathlib.Core.Path.{_≡_, sym, ap}
+-- first collision; the checker's answer says the same; and turning the circle changes nothing. Assumes nothing.
+use mathlib.Core.Path.{_≡_, refl, sym, _∙_, ap}
 use mathlib.Core.Bool.{not, true, false}
-use mathlib.Core.List.{List, []}
+use mathlib.Core.List.{List, [], _∷_}
 use Prim.Native.Nat.{ℕ, _<_}
 use native.Mathlib.Omega.{arith}
+use lib.Dec.{ltb}
 use lib.ListN.{length}
 use borrow.Author.Tests.{not-false}
-use Rattle.ground.specs.Judging.{first}
-use Rattle.ground.specs.Least.{some}
+use Rattle.ground.specs.Judging.{first, when, atRow}
+use Rattle.ground.specs.Least.{least, some}
 use Rattle.ground.specs.declared.Judged.the-variants.{Fine, Fault}
 use Rattle.ground.proofs.Faults.{fine, hit-row, pass, passed, front-hit, front-pass, front-fine}
-use Rattle.ground.proofs.Minimum.{least-at, none-has, some-none}
+use Rattle.ground.proofs.Minimum.{least-at, least-cong, none-has, some-none}
 use Rattle.link.specs.Limits.{notClear}
 use Rattle.link.specs.Range.{GoodPlan}
 use Rattle.link.specs.Refusal.{planFaults}
-use Rattle.link.specs.Rows.{spanOf, Clear}
+use Rattle.link.specs.Rows.{spanOf, movedOn, Clear}
 use Rattle.link.specs.declared.Link.{Link}
 use Rattle.link.proofs.Accepted.{good-plan, fine-plan}
 use Rattle.link.proofs.Clearness.{clear-rows, rows-clear}
+use Rattle.link.proofs.Turning.{good-moved, free-moved}
 use Rattle.checker.specs.Answer.{Said, said, blocked, answer}
 use Rattle.checker.specs.Judging.{clearFaults, judgedAs}
 use Rattle.checker.specs.Order.{FirstCollision}
@@ -96,3 +98,24 @@ module _ (k : Link) (ds os : List ℕ) where
   as-judged (Refused n q) e =
       front-hit (planFaults k ds os) _ n q
       (refusal-told (k .period) (spanOf k) ds os (first (planFaults k ds os)) n q (naming (k .period) (spanOf k) ds os) e)
+
+-- with no fault of the values
+judged-rows : (k : Link) (ds os : List ℕ) → GoodPlan k ds os
+    → first (atRow (blocked (k .period) (spanOf k) ds os) (length ds) notClear ∷ []) ≡ first (clearFaults k ds os)
+unfolding clearFaults
+judged-rows k ds os g = front-pass (planFaults k ds os) _ _ (sym (fine-plan k ds os g)) refl
+
+least-moved : (k : Link) (ds os : List ℕ) (r : ℕ) → GoodPlan k ds os
+    → least (blocked (k .period) (spanOf k) ds (movedOn (k .period) r os)) (length ds)
+    ≡ least (blocked (k .period) (spanOf k) ds os) (length ds)
+unfolding blocked
+least-moved k ds os r g =
+    least-cong _ _ (length ds)
+    (λ j l. ap not (free-moved (k .period) r (g .table .period-low) ds os (spanOf k) j (omega (arith, g .as-many))))
+
+-- however the circle is turned, a plan in range is judged as before
+pub judged-moved : (k : Link) (ds os : List ℕ) (r : ℕ) → GoodPlan k ds os
+    → first (clearFaults k ds (movedOn (k .period) r os)) ≡ first (clearFaults k ds os)
+judged-moved k ds os r g =
+    sym (judged-rows k ds (movedOn (k .period) r os) (good-moved k ds os r g))
+    ∙ ap (λ (j : ℕ). first (when (ltb j (length ds)) notClear j ∷ [])) (least-moved k ds os r g) ∙ judged-rows k ds os g

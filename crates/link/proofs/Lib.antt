@@ -3,5 +3,6 @@ pub mod Circle
 pub mod Meeting
 pub mod Clearness
 pub mod Accepted
+pub mod Turning
 pub mod Promises
 pub mod Worked

@@ -1,6 +1,6 @@
 -- Rows of a table ds at the offsets os: where they start, and which earlier row a row meets.
 use mathlib.Core.Bool.{Bool, true, false, not, cond, _||_}
-use mathlib.Core.List.{List}
+use mathlib.Core.List.{List, map}
 use Prim.Native.Nat.{ℕ, _+_, _%_, _<_}
 use lib.ListN.{length, getD}
 use Rattle.ground.specs.Least.{least, some}
@@ -32,6 +32,10 @@ startAt p two d a = second p d a
 -- where row i starts
 unfoldable pub start : ℕ → List ℕ → List ℕ → Crossing → ℕ → ℕ
 start p ds os c i = startAt p c (getD ds i 0) (getD os i 0)
+
+-- the circle turned: all offsets moved on by r slots, modulo P
+abbrev pub movedOn : ℕ → ℕ → List ℕ → List ℕ
+movedOn p r os = map (λ a. (a + r) % p) os
 
 -- no two rows meet in the crossing c
 pub record ClearIn (p l : ℕ) (ds os : List ℕ) (c : Crossing) : Type 0 where

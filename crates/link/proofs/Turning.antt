@@ -1,0 +1,106 @@
+-- The circle turned by r slots: each row starts r slots on in both crossings and uses the slots r on, so the same rows meet.
+-- Assumes nothing.
+use mathlib.Core.Path.{_≡_, refl, sym, _∙_, ap, ap₂}
+use mathlib.Core.Bool.{not}
+use mathlib.Core.List.{List}
+use Prim.Native.Nat.{ℕ, _+_, _-_, _%_, _<_}
+use native.Mathlib.Omega.{arith}
+use native.Mathlib.Nat.{mod-lt, mod-mod, mod-add-mod}
+use lib.Dec.{ltb}
+use lib.ListN.{length, getD, length-map}
+use Rattle.ground.proofs.Bools.{same-test}
+use Rattle.ground.proofs.Elements.{getD-mapped}
+use Rattle.ground.proofs.Minimum.{least-cong}
+use Rattle.ground.proofs.Remainders.{same-on, same-back, back-and-there}
+use Rattle.link.specs.Slots.{uses, meets, Uses, Meet}
+use Rattle.link.specs.Rows.{Crossing, one, two, second, startAt, start, movedOn, hits, either, free}
+use Rattle.link.specs.Range.{GoodPlan}
+use Rattle.link.specs.declared.Link.{Link}
+use Rattle.link.proofs.Circle.{uses-true, uses-slot, meets-true, meets-slot}
+
+module _ (p r : ℕ) (some : 0 < p) where
+  -- the slot r slots on from a
+  abbrev pub on : ℕ → ℕ
+  on a = (a + r) % p
+
+  -- r slots on and then k, or k and then r
+  first-on : (a k : ℕ) → (on a + k) % p ≡ (a + k + r) % p
+  first-on a k = let e : a + r + k ≡ a + k + r = omega arith in mod-add-mod (a + r) p k ∙ ap (λ (x : ℕ). x % p) e
+
+  -- the slot that is y slots on from slot 0
+  module _ (l a y : ℕ) where
+    uses-on : Uses p l a (y % p) → Uses p l (on a) (on y)
+    uses-on u = (u .0, u .1, first-on a (u .0) ∙ same-on p (a + u .0) y r (u .2))
+
+    uses-back : Uses p l (on a) (on y) → Uses p l a (y % p)
+    uses-back u = (u .0, u .1, same-back p (a + u .0) y r some (sym (first-on a (u .0)) ∙ u .2))
+
+    pub uses-moved : uses p l (on a) (on y) ≡ uses p l a (y % p)
+    uses-moved =
+        same-test _ _ (λ e. uses-true p l a (y % p) (uses-back (uses-slot p l (on a) (on y) e)))
+        (λ e. uses-true p l (on a) (on y) (uses-on (uses-slot p l a (y % p) e)))
+
+  module _ (l a b : ℕ) where
+    meet-on : Meet p l a b → Meet p l (on a) (on b)
+    meet-on m = (on (m .0), uses-on l a (m .0) (low a (m .1)), uses-on l b (m .0) (low b (m .2)))
+      where
+        low : (x : ℕ) → Uses p l x (m .0) → Uses p l x (m .0 % p)
+        low x u = (u .0, u .1, sym (mod-mod (x + u .0) p) ∙ ap (λ (s : ℕ). s % p) (u .2))
+
+    meet-back : Meet p l (on a) (on b) → Meet p l a b
+    meet-back m = (y % p, uses-back l a y (at a (m .1)), uses-back l b y (at b (m .2)))
+      where
+        y : ℕ
+        y = m .0 + (p - r % p)
+
+        at : (x : ℕ) → Uses p l (on x) (m .0) → Uses p l (on x) (on y)
+        at x u = (
+          u .0,
+          u .1,
+          sym (mod-mod (on x + u .0) p) ∙ ap (λ (s : ℕ). s % p) (u .2)
+              ∙ sym (sym (mod-add-mod (m .0 + (p - r % p)) p r) ∙ back-and-there p some r (m .0)),
+        )
+
+    pub meets-moved : meets p l (on a) (on b) ≡ meets p l a b
+    meets-moved =
+        same-test _ _ (λ e. meets-true p l a b some (meet-back (meets-slot p l (on a) (on b) e)))
+        (λ e. meets-true p l (on a) (on b) some (meet-on (meets-slot p l a b e)))
+
+  start-on : (c : Crossing) (d a : ℕ) → startAt p c d (on a) ≡ on (startAt p c d a)
+  unfolding second
+  start-on one d a = refl
+  start-on two d a = first-on a d ∙ sym (mod-add-mod (a + d) p r)
+
+  module _ (ds os : List ℕ) where
+    moved-at : (i : ℕ) → i < length os → getD (movedOn p r os) i 0 ≡ on (getD os i 0)
+    moved-at i l = getD-mapped on os 0 0 i l
+
+    pub start-moved : (c : Crossing) (i : ℕ) → i < length os → start p ds (movedOn p r os) c i ≡ on (start p ds os c i)
+    unfolding start
+    start-moved c i l = ap (startAt p c (getD ds i 0)) (moved-at i l) ∙ start-on c (getD ds i 0) (getD os i 0)
+
+    -- row j meets an earlier row exactly where it did
+    pub free-moved : (l j : ℕ) → j < length os
+        → free p l ds (movedOn p r os) j (getD ds j 0) (getD (movedOn p r os) j 0) ≡ free p l ds os j (getD ds j 0) (getD os j 0)
+    unfolding free hits either
+    free-moved l j m = ap (λ (x : ℕ). not (ltb x j)) (least-cong _ _ j (λ i q. rw (hit one i (omega arith), hit two i (omega arith))))
+      where
+        hit : (c : Crossing) (i : ℕ) → i < length os
+            → meets p l (start p ds (movedOn p r os) c i) (startAt p c (getD ds j 0) (getD (movedOn p r os) j 0))
+            ≡ meets p l (start p ds os c i) (startAt p c (getD ds j 0) (getD os j 0))
+        hit c i q =
+            ap₂ (meets p l) (start-moved c i q) (ap (startAt p c (getD ds j 0)) (moved-at j m) ∙ start-on c (getD ds j 0) (getD os j 0))
+            ∙ meets-moved l (start p ds os c i) (startAt p c (getD ds j 0) (getD os j 0))
+
+-- a plan in range is so however it is turned
+pub good-moved : (k : Link) (ds os : List ℕ) (r : ℕ) → GoodPlan k ds os → GoodPlan k ds (movedOn (k .period) r os)
+good-moved k ds os r g =
+    let n = length-map os (λ a. (a + r) % k .period) in
+    record {
+      table = g .table;
+      as-many = n ∙ g .as-many;
+      offsets = λ i l.
+          let e = getD-mapped (λ a. (a + r) % k .period) os 0 0 i (omega arith) in
+          let low = mod-lt (getD os i 0 + r) (g .table .period-low) in
+          omega (arith, e);
+    }
