@@ -585,16 +585,17 @@ static void sort(uint32_t *starts, size_t rows)
     }
 }
 
-/* Walks the slots of one crossing; counts[0 .. 2] become free, stretches, widest. */
+/* Walks the slots of one crossing once round, from the first message on; counts[0 .. 2] become
+ * free, stretches, widest. */
 static void walk_slots(uint32_t period, uint32_t size, uint32_t *starts, size_t rows,
                        uint64_t *counts)
 {
     sort(starts, rows);
-    uint32_t last_end = starts[rows - 1] + size;
-    uint32_t used = last_end > period ? last_end - period : 0; /* slots to come of a message */
+    uint32_t first = starts[0];
+    uint32_t used = 0; /* slots to come of a message */
     uint32_t free_slots = 0, stretches = 0, widest = 0, run = 0;
     size_t next = 0;
-    for (uint32_t slot = 0; slot < period; slot++) {
+    for (uint32_t slot = first; slot < first + period; slot++) {
         if (next < rows && slot == starts[next]) {
             used = size;
             next++;

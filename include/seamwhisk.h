@@ -258,10 +258,11 @@ void seamwhisk_write_plan(uint32_t period, uint32_t size, const uint32_t *delays
 void seamwhisk_read_plan(const uint8_t *file, size_t length, uint32_t *delays, size_t delays_room,
                          uint32_t *offsets, size_t offsets_room, seamwhisk_read *answer);
 
-/* The stretch report on a clear plan. A stretch is a longest run of free slots from slot 0 to slot
- * P-1, not joined across the end.
+/* The stretch report on a clear plan. A stretch is a longest run of free slots on the period, where
+ * slot P-1 is followed by slot 0: free slots at the end and at the start are one stretch.
  * Judges 5, 6, 8, 7 (least row), 11 if count is not rows, 17 (least row), 18.
- * Otherwise number is 0 and the six fields are filled; free_1 and free_2 are both P - rows * T. */
+ * Otherwise number is 0 and the six fields are filled; free_1 and free_2 are both P - rows * T. All
+ * offsets moved on by the same number of slots, modulo P, give the same answer. */
 void seamwhisk_report(uint32_t period, uint32_t size, const uint32_t *delays, size_t rows,
                       const uint32_t *offsets, size_t count, seamwhisk_reported *answer);
 

@@ -149,15 +149,42 @@ pub fn all_good_sequences(rows: u64, placed: u64) -> u64 {
     count
 }
 
-/// Free slots, stretches and widest stretch of a crossing, each from its definition.
+/// Free slots, stretches and widest stretch of a crossing: of all arcs of the circle, by first
+/// slot and length, the stretches are those that are free and have a used slot just before and
+/// just after.
 pub fn stretches(table: &Table, offsets: &[u64], crossing: u64) -> Stretches {
+    let period = table.period;
     let used: BTreeSet<u64> =
         (0..offsets.len()).flat_map(|row| slot_set(table, crossing, row, offsets[row])).collect();
-    let free: Vec<u64> = (0..table.period).filter(|slot| !used.contains(slot)).collect();
-    let begins = free.iter().filter(|&&slot| slot == 0 || used.contains(&(slot - 1)));
-    let run = |slot: u64| (slot..table.period).take_while(|slot| !used.contains(slot)).count();
-    let widest = free.iter().map(|&slot| run(slot)).max().unwrap_or(0);
-    Stretches { free: free.len() as u64, stretches: begins.count() as u64, widest: widest as u64 }
+    let mut answer = Stretches { free: 0, stretches: 0, widest: 0 };
+    for first in 0..period {
+        answer.free += u64::from(!used.contains(&first));
+        for length in 1..=period {
+            let free = (first..first + length).all(|slot| !used.contains(&(slot % period)));
+            let before = used.contains(&((first + period - 1) % period));
+            let after = used.contains(&((first + length) % period));
+            if free && before && after {
+                answer.stretches += 1;
+                answer.widest = answer.widest.max(length);
+            }
+        }
+    }
+    answer
+}
+
+/// The same of a clear plan from the starts alone, for periods of any length: what lies between
+/// a message and the next one on the circle is free.
+pub fn stretches_between(table: &Table, offsets: &[u64], crossing: u64) -> Stretches {
+    let delay = |row: usize| if crossing == 1 { 0 } else { table.delays[row] };
+    let starts = offsets.iter().enumerate().map(|(row, offset)| offset + delay(row));
+    let mut starts: Vec<u64> = starts.map(|start| start % table.period).collect();
+    starts.sort();
+    // After the last message comes the first once more, one period later.
+    starts.push(starts[0] + table.period);
+    let gaps = starts.windows(2).map(|pair| pair[1] - pair[0] - table.size);
+    let gaps: Vec<u64> = gaps.filter(|&gap| gap > 0).collect();
+    let (free, widest) = (gaps.iter().sum(), gaps.iter().copied().max().unwrap_or(0));
+    Stretches { free, stretches: gaps.len() as u64, widest }
 }
 
 /// What a call on values takes beside its table.

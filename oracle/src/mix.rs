@@ -5,7 +5,7 @@ use crate::cases::{Case, Lent};
 use crate::checker::Record;
 use crate::damage::{damage_file, damage_text};
 use crate::exact::{ceiling, exact, MAX_EXACT_ROWS};
-use crate::link::Table;
+use crate::link::{Table, CROSSINGS};
 use crate::planfile::plan_file;
 use crate::quick::first_fit;
 use crate::random::Random;
@@ -43,10 +43,43 @@ fn records_case(random: &mut Random) -> Case {
     Case::CheckRecords { period: table.period, size: table.size, records }
 }
 
+/// A plan, at times with the crossings exchanged, at times with a message at the period's end.
 fn report_case(random: &mut Random) -> Case {
+    let mut own = random.branch();
     let (mut table, mut offsets) = plan(random);
+    if own.chance(50) {
+        exchange_crossings(&mut table, &mut offsets);
+    }
+    if own.chance(50) {
+        let turn = turn_to_the_end(&mut own, &table, &offsets);
+        offsets = turned(&table, &offsets, turn);
+    }
     spoil(random, &mut table, &mut offsets, 20);
     Case::Report { table, offsets }
+}
+
+/// Each row now starts in crossing 1 where it started in crossing 2, and the other way round:
+/// First Fit leaves few stretches in crossing 1.
+fn exchange_crossings(table: &mut Table, offsets: &mut [u64]) {
+    let period = table.period;
+    for (row, offset) in offsets.iter_mut().enumerate() {
+        *offset = table.start(2, row, *offset);
+        table.delays[row] = period - table.delays[row] % period;
+    }
+}
+
+/// A turn of the circle with which, in one crossing, a message begins or ends at most two slots
+/// from the period's end.
+pub fn turn_to_the_end(random: &mut Random, table: &Table, offsets: &[u64]) -> u64 {
+    let row = random.place(offsets.len());
+    let start = table.start(random.pick(&CROSSINGS), row, offsets[row]);
+    let edge = start + random.pick(&[0, table.size]);
+    3 * table.period - edge % table.period + random.below(5) - 2
+}
+
+/// All offsets moved on by the same number of slots modulo P.
+pub fn turned(table: &Table, offsets: &[u64], turn: u64) -> Vec<u64> {
+    offsets.iter().map(|offset| (offset + turn) % table.period).collect()
 }
 
 fn first_fit_case(random: &mut Random) -> Case {
@@ -97,7 +130,7 @@ fn budget(random: &mut Random, table: &Table) -> u64 {
     }
 }
 
-fn read_table_case(random: &mut Random) -> Case {
+pub fn read_table_case(random: &mut Random) -> Case {
     let mut table = table(random);
     spoil(random, &mut table, &mut vec![0], 20);
     let mut text = text_of(&table);
@@ -108,7 +141,7 @@ fn read_table_case(random: &mut Random) -> Case {
     Case::ReadTable { text, lent }
 }
 
-fn program_case(random: &mut Random) -> Case {
+pub fn program_case(random: &mut Random) -> Case {
     let mut table = table(random);
     let rows = random.between(2, 9) as usize;
     table.delays.truncate(rows);
@@ -135,7 +168,7 @@ fn searches_long(input: &[u8]) -> bool {
     answer.refusal.is_some_and(|refusal| refusal.number == 15)
 }
 
-fn write_plan_case(random: &mut Random) -> Case {
+pub fn write_plan_case(random: &mut Random) -> Case {
     let (mut table, mut offsets) = plan(random);
     let needed = plan_file(&table, &offsets).len();
     let mut lent = lent(random, needed);
@@ -236,7 +269,7 @@ fn large(random: &mut Random) -> Shape {
 }
 
 /// A good table with offsets in range: clear, nearly clear, or far from it.
-fn plan(random: &mut Random) -> (Table, Vec<u64>) {
+pub fn plan(random: &mut Random) -> (Table, Vec<u64>) {
     let mut table = table(random);
     let period = table.period;
     let mut offsets: Vec<u64> = table.delays.iter().map(|_| random.below(period)).collect();
@@ -263,13 +296,13 @@ fn plan(random: &mut Random) -> (Table, Vec<u64>) {
 }
 
 /// A clear plan turned around the circle, if First Fit or a short search finds one.
-fn clear_plan(random: &mut Random, table: &Table) -> Option<Vec<u64>> {
+pub fn clear_plan(random: &mut Random, table: &Table) -> Option<Vec<u64>> {
     let mut offsets = vec![0; table.rows()];
     if first_fit(table, &mut offsets).is_err() {
         exact(table, 2000, &mut offsets).refusal.is_none().then_some(())?;
     }
     let turn = random.below(table.period);
-    Some(offsets.iter().map(|offset| (offset + turn) % table.period).collect())
+    Some(turned(table, &offsets, turn))
 }
 
 /// Rows side by side in crossing 1, one of them brought onto another in crossing 2.

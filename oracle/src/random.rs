@@ -7,6 +7,11 @@ impl Random {
         Random(seed)
     }
 
+    /// A generator of its own, which takes no number from this one.
+    pub fn branch(&self) -> Random {
+        Random(Random(self.0).next())
+    }
+
     pub fn next(&mut self) -> u64 {
         self.0 = self.0.wrapping_add(0x9E37_79B9_7F4A_7C15);
         let mut mixed = self.0;

@@ -6,7 +6,7 @@ use crate::checker::{check, check_records, Record, Verdict};
 use crate::exact::{ceiling, exact};
 use crate::limits;
 use crate::link::{meet, meet_by_differences, meet_by_slots, Refusal, Table};
-use crate::mix;
+use crate::mix::{self, turn_to_the_end, turned};
 use crate::planfile::{read_plan, seven_bit_groups, write_plan, TAG};
 use crate::program;
 use crate::quick::{first_fit, meta_offset};
@@ -19,7 +19,7 @@ use crate::vectors;
 /// A group gives the number of comparisons made, or says what differs.
 type Group = fn() -> Result<u64, String>;
 
-const GROUPS: [(&str, Group); 25] = [
+const GROUPS: [(&str, Group); 27] = [
     ("meeting: slot sets against differences", meeting),
     ("checker: the least of all collisions", checker),
     ("quick planners: the least of all free offsets", quick_planners),
@@ -29,7 +29,9 @@ const GROUPS: [(&str, Group); 25] = [
     ("exact: every budget", exact_budgets),
     ("exact: shorter messages and rows taken out", exact_after_easing),
     ("ceilings: formula, recursion, never passed", ceilings),
-    ("report: slot by slot", reports),
+    ("report: all arcs of the circle", reports),
+    ("report: turning the circle changes nothing", small_circles_turned),
+    ("report: larger circles turned, gaps between messages", larger_circles_turned),
     ("order of judging: all faults, the first of them", value_orders),
     ("texts: all short ones accepted as rendered", short_texts),
     ("texts: damaged ones, all faults listed", damaged_texts),
@@ -291,17 +293,86 @@ fn ceilings() -> Result<u64, String> {
     Ok(count)
 }
 
+fn report_once(table: &Table, offsets: &[u64]) -> Result<(), String> {
+    let expected = match brute::collisions(table, offsets).first() {
+        Some(&(later, _, _)) => Err(Refusal { number: 18, place: later as u64 }),
+        None => Ok([1, 2].map(|crossing| brute::stretches(table, offsets, crossing))),
+    };
+    same((table, offsets), report(table, offsets), expected)
+}
+
 fn reports() -> Result<u64, String> {
     let mut count = 0;
-    for table in small_tables(6) {
+    for table in small_tables(7) {
         for offsets in all_lists(table.rows(), table.period) {
-            let expected = match brute::collisions(&table, &offsets).first() {
-                Some(&(later, _, _)) => Err(Refusal { number: 18, place: later as u64 }),
-                None => Ok([1, 2].map(|crossing| brute::stretches(&table, &offsets, crossing))),
-            };
-            same((&table, &offsets), report(&table, &offsets), expected)?;
+            report_once(&table, &offsets)?;
             count += 1;
         }
+    }
+    let mut random = Random::new(13);
+    for _ in 0..3000 {
+        let (table, offsets) = mix::plan(&mut random);
+        if table.period <= 40 {
+            report_once(&table, &offsets)?;
+            count += 1;
+        }
+    }
+    Ok(count)
+}
+
+/// "a period that repeats": after every one of these turns of the circle the six numbers are
+/// the same, and a plan that is not clear is refused with 18 at the same row.
+fn turns_change_nothing(table: &Table, offsets: &[u64], turns: &[u64]) -> Result<u64, String> {
+    let expected = report(table, offsets);
+    if let Err(refusal) = expected {
+        same((table, offsets), refusal.number, 18)?;
+    }
+    for &turn in turns {
+        let answer = report(table, &turned(table, offsets, turn));
+        same((table, offsets, turn), answer, expected)?;
+    }
+    Ok(turns.len() as u64)
+}
+
+fn small_circles_turned() -> Result<u64, String> {
+    let mut count = 0;
+    for table in small_tables(8) {
+        let turns: Vec<u64> = (0..table.period).collect();
+        for offsets in all_lists(table.rows(), table.period) {
+            count += turns_change_nothing(&table, &offsets, &turns)?;
+        }
+    }
+    Ok(count)
+}
+
+/// Every turn of a short circle; of a long one a few, most of them to the period's end.
+fn larger_circle(random: &mut Random, table: &Table, offsets: &[u64]) -> Result<u64, String> {
+    if let Ok(numbers) = report(table, offsets) {
+        let expected = [1, 2].map(|crossing| brute::stretches_between(table, offsets, crossing));
+        same((table, offsets), numbers, expected)?;
+    }
+    if table.period <= 300 {
+        let turns: Vec<u64> = (0..table.period).collect();
+        return turns_change_nothing(table, offsets, &turns);
+    }
+    let mut turns = vec![1, table.period - 1, random.below(table.period)];
+    turns.extend((0..4).map(|_| turn_to_the_end(random, table, offsets)));
+    turns_change_nothing(table, offsets, &turns)
+}
+
+fn larger_circles_turned() -> Result<u64, String> {
+    let mut random = Random::new(14);
+    let mut count = 0;
+    for _ in 0..1000 {
+        let (table, offsets) = mix::plan(&mut random);
+        count += larger_circle(&mut random, &table, &offsets)?;
+    }
+    for period in [999_999, 1_000_000, 1_000_000] {
+        let (size, rows) = (random.between(1, 60_000), random.between(1, 5));
+        let delays = (0..rows).map(|_| random.below(1 << 24)).collect();
+        let table = Table { period, size, delays };
+        let offsets = mix::clear_plan(&mut random, &table).ok_or("no clear plan")?;
+        count += larger_circle(&mut random, &table, &offsets)?;
     }
     Ok(count)
 }
@@ -389,7 +460,10 @@ fn short_texts() -> Result<u64, String> {
 fn damaged_texts() -> Result<u64, String> {
     let mut random = Random::new(5);
     let mut count = 0;
-    let made = (0..200_000).map(|_| mix::case(&mut random));
+    let made = (0..40_000).map(|round| match round % 3 {
+        0 => mix::program_case(&mut random),
+        _ => mix::read_table_case(&mut random),
+    });
     for case in limits::all().into_iter().chain(made) {
         if let Case::ReadTable { text, .. } | Case::Program { input: text } = case {
             text_once(&text)?;
@@ -610,8 +684,9 @@ fn file_laws() -> Result<u64, String> {
 fn files_read_back() -> Result<u64, String> {
     let mut random = Random::new(7);
     let mut count = 0;
-    for _ in 0..50_000 {
-        let Case::WritePlan { table, offsets, .. } = mix::case(&mut random) else { continue };
+    for _ in 0..5000 {
+        let written = mix::write_plan_case(&mut random);
+        let Case::WritePlan { table, offsets, .. } = written else { continue };
         let mut output = vec![0; 459];
         let Ok(length) = write_plan(&table, &offsets, &mut output) else { continue };
         let (mut delays, mut read_offsets) = (vec![0; 64], vec![0; 64]);

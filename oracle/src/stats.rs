@@ -1,6 +1,7 @@
 //! How often each kind of case ends in each refusal or verdict.
 
 use crate::cases::{Case, KINDS};
+use crate::link::{Table, CROSSINGS};
 use std::collections::BTreeMap;
 
 /// The outcomes that each kind can have; the kinds are those of `KINDS`.
@@ -12,7 +13,7 @@ const POSSIBLE: [&[&str]; 11] = [
     &["read", "1", "2", "3", "4", "5", "6", "7", "8", "9", "10", "11"],
     &["written", "5", "6", "8", "7", "11 offsets", "17", "18", "11 output"],
     &["read", "16", "19 tag", "19 number", "20", "21", "5", "6", "8", "7", "17", "22", "18", "11"],
-    &["stretches", "5", "6", "8", "7", "11", "17", "18"],
+    &["joined both", "joined 1", "joined 2", "apart", "5", "6", "8", "7", "11", "17", "18"],
     &["value", "0"],
     &["clear", "crossing 1", "crossing 2", "5", "6", "8", "7", "17"],
     &["found", "none", "1", "2", "3", "4", "5", "6", "7", "8", "9", "10", "12"],
@@ -61,10 +62,31 @@ fn outcome(case: &Case) -> String {
         },
         Case::ReadTable { .. } | Case::ReadPlan { .. } => "read".to_string(),
         Case::WritePlan { .. } => "written".to_string(),
-        Case::Report { .. } => "stretches".to_string(),
+        Case::Report { table, offsets } => report_outcome(table, offsets).to_string(),
         Case::Ceiling { .. } => "0".to_string(),
         _ => "plan".to_string(),
     }
+}
+
+/// "a run at the end and a run at the start are one stretch": in which crossings is it so?
+fn report_outcome(table: &Table, offsets: &[u64]) -> &'static str {
+    let joined = CROSSINGS.map(|crossing| {
+        [0, table.period - 1].iter().all(|&slot| free(table, offsets, crossing, slot))
+    });
+    match joined {
+        [true, true] => "joined both",
+        [true, false] => "joined 1",
+        [false, true] => "joined 2",
+        [false, false] => "apart",
+    }
+}
+
+/// Is the slot none of the T slots from any row's start?
+fn free(table: &Table, offsets: &[u64], crossing: u64, slot: u64) -> bool {
+    let from_start = |(row, &offset): (usize, &u64)| {
+        (slot + table.period - table.start(crossing, row, offset)) % table.period
+    };
+    offsets.iter().enumerate().all(|row| from_start(row) >= table.size)
 }
 
 /// The first word that the program prints, or its refusal number.

@@ -1,5 +1,5 @@
-//! Vectors: every worked table of document 01, request One of document 02, and every example of
-//! their decided readings, each with the answer written down by hand.
+//! Vectors: every worked table of document 01, requests One and Two of document 02, and every
+//! example of their decided readings, each with the answer written down by hand.
 
 use crate::cases::{counted, Case, Lent};
 use crate::checker::Record;
@@ -52,6 +52,11 @@ pub fn all() -> Vec<Vector> {
         bytes_left_over,
         every_fault_at_every_number,
         file_of_every_number,
+        runs_at_both_ends,
+        runs_at_one_end,
+        nothing_free,
+        crossings_that_differ,
+        stretches_at_limits,
     ] {
         vectors.extend(group());
     }
@@ -91,6 +96,11 @@ fn exact(period: u64, size: u64, delays: &[u64], budget: u64, length: usize) -> 
 
 fn report(period: u64, size: u64, delays: &[u64], offsets: &[u64]) -> Case {
     Case::Report { table: Table::new(period, size, delays), offsets: offsets.to_vec() }
+}
+
+/// A report answered: free, stretches and widest of crossing 1, then those of crossing 2.
+fn reports(name: &'static str, case: Case, first: [u64; 3], second: [u64; 3]) -> Vector {
+    is(name, case, &[&[0, 0], &first[..], &second[..]].concat())
 }
 
 fn write(period: u64, size: u64, delays: &[u64], offsets: &[u64], length: usize) -> Case {
@@ -171,7 +181,8 @@ fn worked_planners() -> Vec<Vector> {
 
 fn worked_others() -> Vec<Vector> {
     vec![
-        is("01 stretches", report(5, 2, &[0], &[1]), &[0, 0, 3, 2, 2, 3, 2, 2]),
+        // Request Two: "document 01's case of it changes so"
+        reports("01 stretches", report(5, 2, &[0], &[1]), [3, 1, 3], [3, 1, 3]),
         is("01 collision", check(10, 2, FIRST, &[0, 2, 4]), &[0, 0, 0, 2, 2]),
         is(
             "01 file written",
@@ -212,7 +223,8 @@ fn errors_to_avoid() -> Vec<Vector> {
     ]
 }
 
-// Readings A to G and O, the refusals of the plan file as request One gives them.
+// Readings A to G and O, the refusals of the plan file as request One gives them, stretches as
+// request Two has them.
 
 fn general() -> Vec<Vector> {
     vec![
@@ -349,10 +361,12 @@ fn checker_and_report() -> Vec<Vector> {
         body_refused("D2 reader", &meeting, 18, 2),
         is("D2 report", report(10, 2, &[0; 4], &[0, 5, 5, 0]), &[18, 2, 0, 0, 0, 0, 0, 0]),
         is("D2 writer", write(10, 2, &[0; 4], &[0, 5, 5, 0], 1), &[18, 2, 0, 200]),
-        is("D3", report(10, 2, &[3], &[0]), &[0, 0, 8, 1, 8, 8, 2, 5]),
-        is("D4", report(4, 2, &[0, 0], &[0, 2]), &[0, 0, 0, 0, 0, 0, 0, 0]),
-        is("D4", report(1, 1, &[9], &[0]), &[0, 0, 0, 0, 0, 0, 0, 0]),
-        is("D5", report(5, 2, &[0], &[1]), &[0, 0, 3, 2, 2, 3, 2, 2]),
+        reports("D3", report(10, 2, &[3], &[0]), [8, 1, 8], [8, 1, 8]),
+        reports("D3 crossing 1 first", report(10, 2, &[0, 1], &[0, 2]), [6, 1, 6], [6, 2, 5]),
+        reports("D3 crossing 1 first", report(10, 2, &[1, 0], &[0, 3]), [6, 2, 5], [6, 1, 6]),
+        reports("D4", report(4, 2, &[0, 0], &[0, 2]), [0, 0, 0], [0, 0, 0]),
+        reports("D4", report(1, 1, &[9], &[0]), [0, 0, 0], [0, 0, 0]),
+        reports("D5 since Two", report(5, 2, &[0], &[1]), [3, 1, 3], [3, 1, 3]),
     ]
 }
 
@@ -910,5 +924,124 @@ fn file_of_every_number() -> Vec<Vector> {
         is("whole", file_into(&file(&body), 2, 2), &[0, 0, 300, 2, 2, 5, 300, 0, 128]),
         body_refused("a byte left over", &[&body[..], &[0]].concat(), 22, 14),
         body_refused("a cut number left over", &[&body[..], &[0x80]].concat(), 22, 14),
+    ]
+}
+
+// Document 02, request Two, and reading I1. All delays are 0, and so both crossings the same,
+// where nothing else is said. Above each case stand its free slots, every stretch in brackets.
+
+/// The same plan in both crossings: no row has a delay.
+fn undelayed(
+    name: &'static str,
+    (period, size): (u64, u64),
+    offsets: &[u64],
+    crossing: [u64; 3],
+) -> Vector {
+    let delays = vec![0; offsets.len()];
+    reports(name, report(period, size, &delays, offsets), crossing, crossing)
+}
+
+/// "From now on a run at the end and a run at the start are one stretch."
+fn runs_at_both_ends() -> Vec<Vector> {
+    vec![
+        // (7 8 9 0 1) (4)
+        undelayed("I1 runs at both ends join", (10, 2), &[2, 5], [6, 2, 5]),
+        // (6 7 8 9 0) (3)
+        undelayed("I1 one slot at the start", (10, 2), &[1, 4], [6, 2, 5]),
+        // (9 0 1 2 3) (6)
+        undelayed("I1 one slot at the end", (10, 2), &[4, 7], [6, 2, 5]),
+        // (10 11 0 1) (4) (7)
+        undelayed("I1 joined run is the widest", (12, 2), &[2, 5, 8], [6, 3, 4]),
+        // (9 10 0 1) (4 5 6)
+        undelayed("I1 widest, but neither part is", (11, 2), &[2, 7], [7, 2, 4]),
+        // (10 11 0) (3 4 5 6 7)
+        undelayed("I1 joined run is not the widest", (12, 2), &[1, 8], [8, 2, 5]),
+        // (8 9 0) (3 4 5)
+        undelayed("I1 joined run is as wide as another", (10, 2), &[1, 6], [6, 2, 3]),
+        // (5 0)
+        undelayed("I1 one row, free at both ends only", (6, 4), &[1], [2, 1, 2]),
+        // (7 0)
+        undelayed("I1 three rows, free at both ends only", (8, 2), &[1, 3, 5], [2, 1, 2]),
+        // (2 0)
+        undelayed("I1 size 1, free at both ends only", (3, 1), &[1], [2, 1, 2]),
+        // two rows meet: 18 as before
+        is(
+            "I1 not clear, both ends free",
+            report(10, 2, &[0, 0], &[4, 5]),
+            &[18, 1, 0, 0, 0, 0, 0, 0],
+        ),
+    ]
+}
+
+/// "Runs that touch one end only stay."
+fn runs_at_one_end() -> Vec<Vector> {
+    vec![
+        // (0 1 2 3 4) (7)
+        undelayed("I1 a run that touches only slot 0", (10, 2), &[5, 8], [6, 2, 5]),
+        // (2) (5 6 7 8 9)
+        undelayed("I1 a run that touches only slot P-1", (10, 2), &[0, 3], [6, 2, 5]),
+        // (0 1 2 3 4 5 6 7)
+        undelayed("I1 one row, its last slot P-1", (10, 2), &[8], [8, 1, 8]),
+        // (2 3 4 5 6 7 8 9)
+        undelayed("I1 one row, its first slot 0", (10, 2), &[0], [8, 1, 8]),
+        // (2 3 4) (8)
+        undelayed("I1 over the end, free slots after it", (10, 3), &[9, 5], [4, 2, 3]),
+        // (1 2 3 4 5 6 7)
+        undelayed("I1 over the end, one row", (10, 3), &[8], [7, 1, 7]),
+        // (4 5 6 7)
+        undelayed("I1 over the end, a message after it", (10, 3), &[8, 1], [4, 1, 4]),
+        // (2 3 4 5 6 7)
+        undelayed("I1 side by side at the end", (10, 2), &[8, 0], [6, 1, 6]),
+    ]
+}
+
+/// "A single row with T = P still has none."
+fn nothing_free() -> Vec<Vector> {
+    let none = |name, case| reports(name, case, [0, 0, 0], [0, 0, 0]);
+    let largest = report(1_000_000, 1_000_000, &[16_777_215], &[999_999]);
+    vec![
+        none("I1 T = P", report(5, 5, &[3], &[2])),
+        none("I1 T = P = 1,000,000", largest),
+        none("I1 nT = P, over the end in crossing 1", report(12, 3, &[5; 4], &[10, 1, 4, 7])),
+        none("I1 nT = P, table 2", report(4, 1, &[0, 2, 1, 1], &[0, 3, 1, 2])),
+        none("I1 nT = P = 2", report(2, 1, &[0, 0], &[0, 1])),
+    ]
+}
+
+/// Crossings with other starts. Each comment has crossing 1, then crossing 2.
+fn crossings_that_differ() -> Vec<Vector> {
+    vec![
+        // starts 2 5: (7 8 9 0 1) (4); starts 0 2: (4 5 6 7 8 9)
+        reports("I1 joined in 1 only", report(10, 2, &[8, 7], &[2, 5]), [6, 2, 5], [6, 1, 6]),
+        // starts 0 2: (4 5 6 7 8 9); starts 2 5: (7 8 9 0 1) (4)
+        reports("I1 joined in 2 only", report(10, 2, &[2, 3], &[0, 2]), [6, 1, 6], [6, 2, 5]),
+        // starts 2 7: (9 10 0 1) (4 5 6); starts 4 6: (8 9 10 0 1 2 3)
+        reports("I1 joined in both", report(11, 2, &[2, 10], &[2, 7]), [7, 2, 4], [7, 1, 7]),
+        // starts 2 5: (7 8 9 10 11 0 1) (4); starts 1 8: (10 11 0) (3 4 5 6 7)
+        reports("I1 widest in 1, not in 2", report(12, 2, &[11, 3], &[2, 5]), [8, 2, 7], [8, 2, 5]),
+        // starts 9 5: (2 3 4) (8); starts 2 5: (8 9 0 1)
+        reports("I1 over the end in 1", report(10, 3, &[3, 0], &[9, 5]), [4, 2, 3], [4, 1, 4]),
+        // start 3: (5 6 7 8 9 0 1 2); start 8: (0 1 2 3 4 5 6 7)
+        reports("I1 largest delay", report(10, 2, &[16_777_215], &[3]), [8, 1, 8], [8, 1, 8]),
+        // Two's own case, start 1: (3 4 0); but with delay 4, start 0: (2 3 4)
+        reports("I1 Two's case, delay 4", report(5, 2, &[4], &[1]), [3, 1, 3], [3, 1, 3]),
+    ]
+}
+
+fn stretches_at_limits() -> Vec<Vector> {
+    let odd: Vec<u64> = (0..64).map(|row| 2 * row + 1).collect();
+    let all_but_one = [999_999, 1, 999_999];
+    vec![
+        // (1); start 1: (0)
+        reports("I1 period 2", report(2, 1, &[1], &[0]), [1, 1, 1], [1, 1, 1]),
+        undelayed("I1 period 2", (2, 1), &[1], [1, 1, 1]),
+        // (500001 .. 999999 0 .. 499999)
+        undelayed("I1 period 1,000,000", (1_000_000, 1), &[500_000], all_but_one),
+        // (0); start 2: (1)
+        reports("I1 T = P - 1", report(1_000_000, 999_999, &[1], &[1]), [1, 1, 1], [1, 1, 1]),
+        // (128 0) (2) (4) .. (126); starts 2 4 .. 128: (0 1) (3) (5) .. (127)
+        reports("I1 64 rows", report(129, 1, &[1; 64], &odd), [65, 64, 2], [65, 64, 2]),
+        // (0) (2) .. (126); starts 2 4 .. 126 0: (1) (3) .. (127)
+        reports("I1 64 rows", report(128, 1, &[1; 64], &odd), [64, 64, 1], [64, 64, 1]),
     ]
 }

@@ -9,10 +9,11 @@ use lib.ListN.{length, getD, take, set, length-set}
 use lib.Seq.{length-take-le, getD-take}
 use borrow.Author.Count.{below-none}
 use Rattle.link.specs.Limits.{maxRows}
-use Rattle.link.specs.Rows.{Crossing, one, two, second, start}
+use Rattle.link.specs.Rows.{Crossing, one, two, second, start, Clear}
 use Rattle.link.specs.Range.{InRange}
 use Rattle.ground.proofs.Filling.{stored}
 use Rattle.link.proofs.Meeting.{start-low}
+use Rattle.link.proofs.Clearness.{clear-in}
 use Rattle.ground.proofs.Minimum.{least-cong}
 use Rattle.report.specs.Free.{usedOf, freeOf, isFree, stretchOf}
 use Rattle.report.specs.Steps.{Placed, freeAt}
@@ -32,13 +33,16 @@ same-free p t ds os c xs w =
     fun-ext (λ s. rw (w .as-many) (ap (λ (k : ℕ). not (ltb k (length ds))) (least-cong _ _ (length ds) (λ i l. rw (w .each i l)))))
 
 module _ {p t : ℕ} {ds os : List ℕ} (r : InRange p t ds os) where
-  pub placed : {c : Crossing} {xs : List ℕ} → 0 < t → StartsOf p ds os c xs → Placed p t xs
+  pub placed : {c : Crossing} {xs : List ℕ} → 0 < t → Clear p t ds os → StartsOf p ds os c xs → Placed p t xs
   unfolding start
-  placed {c} h w =
+  placed {c} h k w =
       record {
         size-low = h;
         size-high = r .span-high;
         low = λ i l. rw (w .each i (omega (arith, w .as-many))) (start-low p c _ _ (r .offsets i (omega (arith, w .as-many, r .as-many))));
+        apart = λ i j l m s.
+            clear-in k c .apart i j l (omega (arith, w .as-many))
+            (rw (w .each i (omega (arith, w .as-many)), w .each j (omega (arith, w .as-many))) at s);
       }
 
   pub firsts : StartsOf p ds os one os

@@ -3,8 +3,11 @@ pub mod Widths
 pub mod Summed
 pub mod Stretches
 pub mod Covering
-pub mod Walking
-pub mod Crossings
 pub mod Total
+pub mod Behind
+pub mod Passing
+pub mod Crossings
+pub mod Turning
+pub mod Joined
 pub mod Promises
 pub mod Worked

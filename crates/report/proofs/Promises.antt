@@ -1,14 +1,16 @@
 -- What the stretch report promises. Assumes nothing.
 use mathlib.Core.Path.{_≡_, refl, sym, _∙_, ap}
-use mathlib.Core.Bool.{Bool}
+use mathlib.Core.Bool.{Bool, true, false, not, cond, _&&_}
 use mathlib.Core.Logic.{_↔_}
 use mathlib.Core.List.{List}
 use Prim.Native.Nat.{ℕ, _+_, _-_, _*_, _≤_, _<_}
 use native.Mathlib.Omega.{arith}
+use native.Mathlib.Nat.{mul-le-mul-right}
 use lib.ListN.{length}
+use borrow.Author.Tests.{not-true}
 use Rattle.link.specs.Limits.{notClear}
 use Rattle.link.specs.Range.{GoodPlan}
-use Rattle.link.specs.Rows.{Crossing, one, two, spanOf, Clear}
+use Rattle.link.specs.Rows.{Crossing, one, two, spanOf, movedOn, Clear}
 use Rattle.link.specs.declared.Link.{Link}
 use Rattle.link.proofs.Accepted.{in-range}
 use Rattle.ground.specs.Judging.{first}
@@ -18,18 +20,21 @@ use Rattle.ground.proofs.Answers.{refused, goes-on, let-through}
 use Rattle.ground.proofs.Answers as answers
 use Rattle.checker.specs.Judging.{clearFaults}
 use Rattle.checker.specs.Order.{FirstCollision}
-use Rattle.checker.proofs.Judging.{clear-fine, fine-clear, unclear}
+use Rattle.checker.proofs.Judging.{clear-fine, fine-clear, unclear, judged-moved}
 use Rattle.ground.specs.Count.{count}
-use Rattle.report.specs.Runs.{runBegins, Run, Longest, runs, totalOf}
+use Rattle.ground.proofs.Counting.{count-not, count-some}
+use Rattle.report.specs.Runs.{runBegins, beginsOnLine, Run, Within, Longest, runs, totalOf}
 use Rattle.report.specs.Free.{isFree, stretchOf}
 use Rattle.report.specs.Answer.{Verdict, reported, refused as refusedly, Said, noStretch, telling, refusing, said, told, answer}
 use Rattle.report.specs.declared.Stretch.{Stretch}
 use Rattle.report.specs.declared.Reported.{Reported}
 use Rattle.report.specs.declared.Reported.the-variants.{Stretches, Refused}
-use Rattle.report.proofs.Stretches.{exactly-longest, none-wider, one-as-wide}
+use Rattle.report.proofs.Widths.{runs-number}
+use Rattle.report.proofs.Stretches.{exactly-longest, in-one, in-no-second, none-wider, one-as-wide}
 use Rattle.report.proofs.Summed.{total-count, nothing-free}
 use Rattle.report.proofs.Total.{free-total}
-use Rattle.report.proofs.Widths.{runs-number}
+use Rattle.report.proofs.Joined.{over-the-end, one-less}
+use Rattle.report.proofs.Turning.{same-numbers}
 
 abbrev unsaidAs : Verdict → Said → Reported
 unsaidAs reported s = Stretches (s .first) (s .second)
@@ -107,18 +112,43 @@ module _ (k : Link) (ds os : List ℕ) where
       unfolding stretchOf
       counted c = ap (λ (s : Stretch). s .free) (numbers c)
 
+      -- some slot is used, so no stretch goes all the way round
+      pub some-used : (c : Crossing) → (u : ℕ) × (u < k .period) × (freeIn c u ≡ false)
+      some-used c =
+          let g = fine-clear k ds os (told-so a b f .0) .0 .table in
+          let used = mul-le-mul-right (k .size) (g .rows-low) in
+          let free = count-not (freeIn c) (k .period) in
+          let w = count-some (λ s. not (freeIn c s)) (k .period) (omega (arith, counted c, with-used c, g .span-low)) in
+          (w .0, w .1, not-true _ (w .2))
+
       -- they, the lengths of the stretches summed,
       pub summed : (c : Crossing) → of c a b .free ≡ totalOf (runs (freeIn c) (k .period))
-      summed c = counted c ∙ sym (total-count (freeIn c) (k .period))
+      summed c = counted c ∙ sym (total-count (freeIn c) (k .period) (some-used c))
 
       -- and P - nT are all equal."
       pub left-over : (c : Crossing) → of c a b .free ≡ k .period - length ds * k .size
       left-over c = omega (arith, with-used c)
 
-      -- "the number of free stretches": one for each free slot that is slot 0 or comes after a used one
-      pub stretches-counted : (c : Crossing) → of c a b .stretches ≡ count (runBegins (freeIn c)) (k .period)
+      -- "the number of free stretches": one for each free slot that comes after a used one
+      pub stretches-counted : (c : Crossing) → of c a b .stretches ≡ count (runBegins (freeIn c) (k .period)) (k .period)
       unfolding stretchOf
       stretches-counted c = ap (λ (s : Stretch). s .stretches) (numbers c) ∙ runs-number _ (k .period) (k .period)
+
+      -- each free slot is in one stretch, and in no second one
+      pub in-one-stretch : (c : Crossing) (s : ℕ) → s < k .period → freeIn c s ≡ true
+          → (x : Run) × Longest (freeIn c) (k .period) x × Within (k .period) s x
+          × ((y : Run) → Longest (freeIn c) (k .period) y → Within (k .period) s y → y ≡ x)
+      in-one-stretch c s l e =
+          let w = in-one (freeIn c) (k .period) (some-used c) s l e in
+          let m = exactly-longest (freeIn c) (k .period) (w .0) .0 (w .1) in
+          (w .0, m, w .2, λ y n v. in-no-second (freeIn c) (k .period) s y (w .0) n m v (w .2))
+
+      -- "a run at the end and a run at the start are one stretch": one less than there are runs on the line from slot 0 to slot P-1
+      pub joined : (c : Crossing) → of c a b .stretches + cond (freeIn c 0 && freeIn c (k .period - 1)) 1 0
+          ≡ count (beginsOnLine (freeIn c)) (k .period)
+      joined c =
+          let w = some-used c in
+          omega (arith, stretches-counted c, one-less (freeIn c) (k .period) (omega (arith, w .1)))
 
       -- "the length of the widest": no longest run of free slots is wider, and where there is a stretch, one is as wide
       pub none-is-wider : (c : Crossing) (s : Run) → Longest (freeIn c) (k .period) s → s .wide ≤ of c a b .widest
@@ -137,3 +167,15 @@ module _ (k : Link) (ds os : List ℕ) where
       -- rows that fill the period leave no stretch
       pub full : length ds * k .size ≡ k .period → (c : Crossing) → of c a b ≡ noStretch
       full h c = numbers c ∙ nothing-free (freeIn c) (k .period) (omega (arith, counted c, with-used c))
+
+  -- a stretch with slot P-1 has slot 0 too, if that is free
+  pub one-stretch : (c : Crossing) (x : Run) → Longest (freeIn c) (k .period) x → Within (k .period) (k .period - 1) x
+      → freeIn c 0 ≡ true → Within (k .period) 0 x
+  one-stretch c x = over-the-end (freeIn c) (k .period) x
+
+  -- turning the circle changes nothing: all offsets of a plan in range moved on by r slots, modulo P, give the same answer
+  pub turning : GoodPlan k ds os → (r : ℕ) → answer k ds (movedOn (k .period) r os) ≡ answer k ds os
+  unfolding answer told
+  turning g r =
+      let same = same-numbers (k .period) (k .size) ds os r (g .table .period-low) (g .as-many) in
+      rw (judged-moved k ds os r g, same one, same two)

@@ -1,120 +1,182 @@
--- The runs of a test below n are exactly the longest ones; each number with the test lies in one, and in no second one; the widest is the
+-- The runs of a test on a circle are exactly the longest ones; each slot with the test lies in one, and in no second one; the widest is the
 -- widest of them. Assumes nothing.
 use mathlib.Core.Path.{_≡_, refl, sym, _∙_, ap}
-use mathlib.Core.Bool.{Bool, true}
+use mathlib.Core.Bool.{Bool, true, false, not}
 use mathlib.Core.Logic.{⊎-elim, _↔_}
 use mathlib.Core.List.{List, [], _∷_, List·Memᴰ, List·Memᴰ·head, List·Memᴰ·tail, List·Memᴰ·cases-cons, List·Memᴰ·not-nil}
-use Prim.Native.Nat.{ℕ, zero, suc, _+_, _-_, _≤_, _<_, max}
+use Prim.Native.Nat.{ℕ, zero, suc, _+_, _-_, _%_, _≤_, _<_, max}
 use native.Mathlib.Omega.{arith}
+use native.Mathlib.Nat.{mod-lt, mod-mod, mod-eq-of-lt, mod-add-mod, add-mod-right}
 use lib.ListN.{length}
+use borrow.Author.Tests.{not-true, not-false}
 use Rattle.ground.proofs.Bools.{clash, lt-or-ge, true-or-false}
-use Rattle.report.specs.Runs.{runBegins, width, Run, Within, Longest, runsBelow, runs, widestOf}
-use Rattle.report.proofs.Widths.{begins-here, begins-has, begins-after, runs-in, runs-out}
-use Rattle.report.proofs.Widths.{width-fits, width-each, width-end, width-at, width-more}
+use Rattle.ground.proofs.Minimum.{least-is}
+use Rattle.ground.proofs.Remainders.{same-on}
+use Rattle.ground.specs.Least.{least, IsLeast}
+use Rattle.report.specs.Runs.{around, runBegins, width, Run, Within, Longest, runsBelow, runs, widestOf}
+use Rattle.report.proofs.Widths.{Ends, around-again, around-from, around-low, begins-here, begins-has, runs-in, runs-out}
+use Rattle.report.proofs.Widths.{width-each, width-end, width-at, width-some, width-upto}
 
-module _ (q : ℕ → Bool) (n : ℕ) where
+module _ (q : ℕ → Bool) (p : ℕ) where
   -- the run that begins at a
   abbrev from : ℕ → Run
-  from a = record { first = a; wide = width q n a }
+  from a = record { first = a; wide = width q p a }
 
-  -- r is the run that begins at a number below m
+  -- r is the run that begins at a slot below m
   abbrev From : ℕ → Run → Type 0
-  From m r = (a : ℕ) × (a < m) × (runBegins q a ≡ true) × (r ≡ from a)
+  From m r = (a : ℕ) × (a < m) × (runBegins q p a ≡ true) × (r ≡ from a)
 
   from-more : (m : ℕ) (r : Run) → From m r → From (suc m) r
   from-more m r w = (w .0, omega (arith, w .1), w .2, w .3)
 
-  member-from : (m : ℕ) (r : Run) → List·Memᴰ r (runsBelow q n m) → From m r
+  pub member-from : (m : ℕ) (r : Run) → List·Memᴰ r (runsBelow q p m) → From m r
   unfolding runsBelow
   member-from zero r h = absurd (List·Memᴰ·not-nil h)
   member-from (suc m) r h =
       ⊎-elim
       (λ e. ⊎-elim (λ i. (m, omega arith, e, i)) (λ t. from-more m r (member-from m r t))
-      (List·Memᴰ·cases-cons (rw (runs-in q n m e) at h)))
-      (λ e. from-more m r (member-from m r (rw (runs-out q n m e) at h))) (true-or-false (runBegins q m))
+      (List·Memᴰ·cases-cons (rw (runs-in q p m e) at h)))
+      (λ e. from-more m r (member-from m r (rw (runs-out q p m e) at h))) (true-or-false (runBegins q p m))
 
-  member-more : (m : ℕ) (r : Run) → List·Memᴰ r (runsBelow q n m) → List·Memᴰ r (runsBelow q n (suc m))
+  member-more : (m : ℕ) (r : Run) → List·Memᴰ r (runsBelow q p m) → List·Memᴰ r (runsBelow q p (suc m))
   member-more m r h =
-      ⊎-elim (λ e. rw (runs-in q n m e) (List·Memᴰ·tail h)) (λ e. rw (runs-out q n m e) h) (true-or-false (runBegins q m))
+      ⊎-elim (λ e. rw (runs-in q p m e) (List·Memᴰ·tail h)) (λ e. rw (runs-out q p m e) h) (true-or-false (runBegins q p m))
 
-  has-from : (m a : ℕ) → a < m → runBegins q a ≡ true → List·Memᴰ (from a) (runsBelow q n m)
+  pub has-from : (m a : ℕ) → a < m → runBegins q p a ≡ true → List·Memᴰ (from a) (runsBelow q p m)
   has-from zero a l e = absurd (omega arith)
   has-from (suc m) a l e =
       ⊎-elim (λ b. member-more m (from a) (has-from m a b e))
-      (λ b. let i : a ≡ m = omega arith in rw (runs-in q n m (rw i at e)) (List·Memᴰ·head (ap from i))) (lt-or-ge a m)
+      (λ b. let i : a ≡ m = omega arith in rw (runs-in q p m (rw i at e)) (List·Memᴰ·head (ap from i))) (lt-or-ge a m)
 
-  longest-from : (a : ℕ) → a < n → runBegins q a ≡ true → Longest q n (from a)
+  -- the slot before a run ends it, at the latest
+  longest-from : (a : ℕ) → a < p → runBegins q p a ≡ true → Longest q p (from a)
   longest-from a l e =
+      let w = begins-has q p a e in
+      let short = width-upto q p a (p - 1) (w .1) in
       record {
-        some = omega (arith, width-more q n a l (begins-has q a e));
-        inside = width-fits q n a (omega arith);
-        each = λ s w. width-each q n a s (w .0) (w .1);
-        before = λ s i. begins-after q s a i e;
-        after = width-end q n a;
+        some = width-some q p a (omega arith) (w .0);
+        inside = l;
+        each = width-each q p a;
+        before = w .1;
+        after = width-end q p a (omega arith);
       }
 
-  from-longest : (r : Run) → Longest q n r → (runBegins q (r .first) ≡ true) × (r ≡ from (r .first))
+  short : (r : Run) → Longest q p r → r .wide < p
+  short r w = ⊎-elim (λ l. l) (λ l. clash (w .each (p - 1) (omega (arith, w .inside))) (w .before)) (lt-or-ge (r .wide) p)
+
+  from-longest : (r : Run) → Longest q p r → (runBegins q p (r .first) ≡ true) × (r ≡ from (r .first))
   from-longest r w =
-      let wide = width-at q n (r .first) (r .wide) (w .inside) (λ s a b. w .each s (a, b)) (w .after) in (
-        begins-here q (r .first) (w .each (r .first) (omega (arith, w .some))) (w .before),
+      let i : r .first + 0 ≡ r .first = omega arith in
+      let wide = width-at q p (r .first) (r .wide) (omega (arith, short r w)) (w .each) (λ _. w .after) in (
+        begins-here q p (r .first) (rw i at (w .each 0 (w .some))) (w .before),
         ap (λ (k : ℕ). record { first = r .first; wide = k }) (sym wide),
       )
 
   -- "A stretch is a longest run": the list has these, and no others
-  pub exactly-longest : (r : Run) → List·Memᴰ r (runs q n) ↔ Longest q n r
+  pub exactly-longest : (r : Run) → List·Memᴰ r (runs q p) ↔ Longest q p r
   exactly-longest r = (
-    λ h. let w = member-from n r h in rw (w .3) (longest-from (w .0) (w .1) (w .2)),
-    λ w. let f = from-longest r w in rw (f .1) (has-from n (r .first) (omega (arith, w .some, w .inside)) (f .0)),
+    λ h. let w = member-from p r h in rw (w .3) (longest-from (w .0) (w .1) (w .2)),
+    λ w. let f = from-longest r w in rw (f .1) (has-from p (r .first) (w .inside) (f .0)),
   )
 
-  -- a run began at a number up to s, and has gone on to s
-  abbrev Begun : ℕ → Type 0
-  Begun s = (a : ℕ) × (a ≤ s) × (runBegins q a ≡ true) × ((u : ℕ) → a ≤ u → u ≤ s → q u ≡ true)
+  -- back from s, j slots, to the nearest slot that has not the test: a run begins after it and goes on to s
+  module _ (s j : ℕ) (hs : s < p) (e : q s ≡ true) (h : IsLeast (λ i. not (around q p (s + (p - i)))) p j) (hj : j < p) where
+    free-back : (i : ℕ) → i < j → around q p (s + (p - i)) ≡ true
+    free-back i l = not-false _ (h .before i l)
 
-  begun-now : (s : ℕ) → q s ≡ true → runBegins q s ≡ true → Begun s
-  begun-now s e b = (s, omega arith, b, λ u l m. let i : u ≡ s = omega arith in rw i e)
+    some-back : 0 < j
+    some-back = ⊎-elim (λ l. l) (λ l. clash (around-again q p s ∙ around-low q p s hs ∙ e) (none (omega arith))) (lt-or-ge 0 j)
+      where
+        none : j ≡ 0 → around q p (s + p) ≡ false
+        none z = let i : s + (p - j) ≡ s + p = omega arith in rw i at (not-true (around q p (s + (p - j))) (h .here hj))
 
-  begun-before : (s : ℕ) → q (suc s) ≡ true → Begun s → Begun (suc s)
-  begun-before s e w = (
-    w .0,
-    omega (arith, w .1),
-    w .2,
-    λ u l m. ⊎-elim (λ b. w .3 u l (omega arith)) (λ b. let i : u ≡ suc s = omega arith in rw i e) (lt-or-ge u (suc s)),
-  )
+    -- the slot where it begins, as so many slots on from slot 0
+    abbrev begin : ℕ
+    begin = s + (p - (j - 1))
 
-  begun : (s : ℕ) → q s ≡ true → Begun s
-  unfolding runBegins
-  begun zero e = begun-now 0 e e
-  begun (suc s) e =
-      ⊎-elim (λ t. begun-before s e (begun s t))
-      (λ f. begun-now (suc s) e (begins-here q (suc s) e (λ u i. let j : u ≡ s = omega arith in rw j f))) (true-or-false (q s))
+    begins : runBegins q p (begin % p) ≡ true
+    begins =
+        let i : begin + (p - 1) ≡ s + (p - j) + p = omega (arith, some-back) in
+        begins-here q p (begin % p) (ap q (mod-mod begin p) ∙ free-back (j - 1) (omega (arith, some-back)))
+        (around-from q p begin (p - 1) ∙ rw i (around-again q p (s + (p - j)) ∙ not-true _ (h .here hj)))
 
-  -- each number with the test lies in a run of the list
-  pub in-one : (s : ℕ) → s < n → q s ≡ true → (r : Run) × List·Memᴰ r (runs q n) × Within s r
-  in-one s l e =
-      let w = begun s e in
-      let end = w .0 + width q n (w .0) in
-      let inside = ⊎-elim (λ b. b) (λ b. clash (w .3 end (omega arith) b) (width-end q n (w .0) (omega arith))) (lt-or-ge s end) in
-      (from (w .0), has-from n (w .0) (omega (arith, w .1)) (w .2), (w .1, inside))
+    reaches : j - 1 < width q p (begin % p)
+    reaches = ⊎-elim (λ l. l) (λ l. absurd (stops l)) (lt-or-ge (j - 1) (width q p (begin % p)))
+      where
+        stops : width q p (begin % p) ≤ j - 1 → ⊥
+        stops l =
+            let w = width q p (begin % p) in
+            let i : begin + w ≡ s + (p - (j - 1 - w)) = omega (arith, some-back) in
+            clash (free-back (j - 1 - w) (omega (arith, some-back)))
+            (rw i at (sym (around-from q p begin w) ∙ width-end q p (begin % p) (omega arith)))
+
+    pub in-this : (r : Run) × List·Memᴰ r (runs q p) × Within p s r
+    in-this =
+        let i : begin + (j - 1) ≡ s + p = omega (arith, some-back) in (
+          from (begin % p),
+          has-from p (begin % p) (mod-lt begin (omega arith)) begins,
+          (j - 1, reaches, mod-add-mod begin p (j - 1) ∙ rw i (add-mod-right s p ∙ mod-eq-of-lt hs)),
+        )
+
+  -- each slot with the test lies in a run of the list
+  pub in-one : Ends q p → (s : ℕ) → s < p → q s ≡ true → (r : Run) × List·Memᴰ r (runs q p) × Within p s r
+  in-one u s l e = in-this s (least back p) l e (least-is back p) (⊎-elim (behind (u .0)) (ahead (u .0)) (lt-or-ge s (u .0)))
+    where
+      back : ℕ → Bool
+      back i = not (around q p (s + (p - i)))
+
+      found : (j : ℕ) → j < p → around q p (s + (p - j)) ≡ false → least back p < p
+      found j b f = ⊎-elim (λ m. m) (λ m. clash (ap not f) (least-is back p .before j (omega arith))) (lt-or-ge (least back p) p)
+
+      behind : (v : ℕ) → s < u .0 → least back p < p
+      behind v m =
+          let i : s + (p - (s + p - u .0)) ≡ u .0 = omega (arith, u .1) in
+          found (s + p - u .0) (omega arith) (rw i (around-low q p (u .0) (u .1) ∙ u .2))
+
+      ahead : (v : ℕ) → u .0 ≤ s → least back p < p
+      ahead v m =
+          let i : s + (p - (s - u .0)) ≡ u .0 + p = omega arith in
+          found (s - u .0) (omega arith) (rw i (around-again q p (u .0) ∙ around-low q p (u .0) (u .1) ∙ u .2))
 
   -- and in no second one
-  pub in-no-second : (s : ℕ) (r x : Run) → Longest q n r → Longest q n x → Within s r → Within s x → r ≡ x
+  pub in-no-second : (s : ℕ) (r x : Run) → Longest q p r → Longest q p x → Within p s r → Within p s x → r ≡ x
   in-no-second s r x v w a b = from-longest r v .1 ∙ ap from same ∙ sym (from-longest x w .1)
     where
-      not-before : (y z : Run) → Longest q n y → Longest q n z → Within s y → Within s z → y .first < z .first → ⊥
-      not-before y z f g h i l = clash (f .each (z .first - 1) (omega arith)) (g .before (z .first - 1) (omega arith))
+      -- the slot before y would be one of z's
+      not-before : (y z : Run) → Longest q p y → Longest q p z → (f : Within p s y) (g : Within p s z) → f .0 < g .0 → ⊥
+      not-before y z m n f g l =
+          let k = g .0 - f .0 - 1 in
+          let d = p - 1 - f .0 in
+          let i : y .first + f .0 + d ≡ y .first + (p - 1) = omega (arith, f .1, short y m) in
+          let j : z .first + g .0 + d ≡ z .first + k + p = omega (arith, f .1, short y m) in
+          let e : (y .first + (p - 1)) % p ≡ (z .first + k) % p =
+          rw (i, j, add-mod-right (z .first + k) p) at (same-on p (y .first + f .0) (z .first + g .0) d (f .2 ∙ sym (g .2))) in
+          clash (n .each k (omega (arith, g .1))) (ap q (sym e) ∙ m .before)
 
-      not-above : r .first ≤ x .first
-      not-above = ⊎-elim (λ l. absurd (not-before x r w v b a l)) (λ l. l) (lt-or-ge (x .first) (r .first))
+      as-far : a .0 ≡ b .0
+      as-far =
+          ⊎-elim (λ l. absurd (not-before r x v w a b l))
+          (λ l. ⊎-elim (λ m. absurd (not-before x r w v b a m)) (λ m. omega arith) (lt-or-ge (b .0) (a .0))) (lt-or-ge (a .0) (b .0))
 
       same : r .first ≡ x .first
-      same = ⊎-elim (λ l. absurd (not-before r x v w a b l)) (λ l. omega (arith, not-above)) (lt-or-ge (r .first) (x .first))
+      same =
+          let d = p - a .0 in
+          let i : r .first + a .0 + d ≡ r .first + p = omega (arith, a .1, short r v) in
+          let j : x .first + b .0 + d ≡ x .first + p = omega (arith, as-far, a .1, short r v) in
+          let there = same-on p (r .first + a .0) (x .first + b .0) d (a .2 ∙ sym (b .2)) in
+          let e = rw (i, j, add-mod-right (r .first) p, add-mod-right (x .first) p) at there in
+          sym (mod-eq-of-lt (v .inside)) ∙ e ∙ mod-eq-of-lt (w .inside)
 
 -- "the length of the widest": no run is wider, and one is as wide
 pub none-wider : (l : List Run) (r : Run) → List·Memᴰ r l → r .wide ≤ widestOf l
 unfolding widestOf
 none-wider l r (List·Memᴰ·head {x} {xs} e) = omega (arith, ap (λ (y : Run). y .wide) e)
 none-wider l r (List·Memᴰ·tail {x} {xs} h) = omega (arith, none-wider xs r h)
+
+pub none-none : (l : List Run) → length l ≤ 0 → widestOf l ≡ 0
+unfolding widestOf
+none-none [] h = refl
+none-none (r ∷ l) h = absurd (omega arith)
 
 -- a run of the list that is as wide as k
 abbrev AsWide : List Run → ℕ → Type 0
@@ -125,7 +187,7 @@ wider-of r l k w =
     ⊎-elim (λ h. (w .0, List·Memᴰ·tail (w .1), omega (arith, w .2))) (λ h. (r, List·Memᴰ·head refl, omega arith)) (lt-or-ge (r .wide) k)
 
 pub one-as-wide : (l : List Run) → 0 < length l → AsWide l (widestOf l)
-unfolding length widestOf
+unfolding widestOf
 one-as-wide [] h = absurd (omega arith)
 one-as-wide (r ∷ []) h = (r, List·Memᴰ·head refl, omega arith)
 one-as-wide (r ∷ (y ∷ l)) h = wider-of r (y ∷ l) (widestOf (y ∷ l)) (one-as-wide (y ∷ l) (omega arith))

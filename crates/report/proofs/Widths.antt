@@ -1,94 +1,121 @@
--- Where a run of a test begins, how wide it is, and what one more number makes of the list of runs. Assumes nothing.
+-- Where a run of a test begins on a circle, how wide it is, and what one more slot makes of the list of runs. Assumes nothing.
 use mathlib.Core.Path.{_≡_, refl, sym, _∙_, ap}
-use mathlib.Core.Bool.{Bool, true, false, not, _&&_}
+use mathlib.Core.Bool.{Bool, true, false, not}
 use mathlib.Core.Logic.{⊎-elim}
 use mathlib.Core.List.{_∷_}
-use Prim.Native.Nat.{ℕ, zero, suc, _+_, _-_, _≤_, _<_}
+use Prim.Native.Nat.{ℕ, zero, suc, _+_, _-_, _%_, _≤_, _<_}
 use native.Mathlib.Omega.{arith}
+use native.Mathlib.Nat.{mod-lt, mod-eq-of-lt, mod-add-mod, add-mod-right, add-comm}
 use lib.ListN.{length}
 use borrow.Author.Tests.{not-true, not-false}
-use Rattle.ground.proofs.Bools.{and-parts, lt-or-ge, true-or-false}
-use Rattle.ground.proofs.Minimum.{least-at, least-is}
+use Rattle.ground.proofs.Bools.{clash, is-false, and-parts, lt-or-ge, true-or-false}
+use Rattle.ground.proofs.Minimum.{least-at, least-is, least-cong}
+use Rattle.ground.proofs.Remainders.{back-and-there}
 use Rattle.ground.specs.Count.{count}
-use Rattle.report.specs.Runs.{runBegins, width, runsBelow}
+use Rattle.report.specs.Runs.{around, runBegins, width, runsBelow}
 use Rattle.ground.proofs.Counting.{count-in, count-out}
 
-and-false : (x : Bool) → (x && false) ≡ false
-and-false true = refl
-and-false false = refl
+-- a slot without the test
+abbrev pub Ends : (ℕ → Bool) → ℕ → Type 0
+Ends q p = (u : ℕ) × (u < p) × (q u ≡ false)
 
-module _ (q : ℕ → Bool) where
-  pub begins-here : (a : ℕ) → q a ≡ true → ((s : ℕ) → suc s ≡ a → q s ≡ false) → runBegins q a ≡ true
+module _ (q : ℕ → Bool) (p : ℕ) where
+  -- once round comes to the same slot, and so does a slot's number in place of a way to it
+  pub around-again : (x : ℕ) → around q p (x + p) ≡ around q p x
+  around-again x = ap q (add-mod-right x p)
+
+  pub around-from : (x k : ℕ) → around q p (x % p + k) ≡ around q p (x + k)
+  around-from x k = ap q (mod-add-mod x p k)
+
+  pub around-low : (s : ℕ) → s < p → around q p s ≡ q s
+  around-low s l = ap q (mod-eq-of-lt l)
+
+  pub begins-here : (a : ℕ) → around q p a ≡ true → around q p (a + (p - 1)) ≡ false → runBegins q p a ≡ true
   unfolding runBegins
-  begins-here zero e f = e
-  begins-here (suc a) e f = rw (e, f a refl)
+  begins-here a e f = rw (e, f)
 
-  pub begins-not : (a : ℕ) → q a ≡ false → runBegins q a ≡ false
+  pub begins-has : (a : ℕ) → runBegins q p a ≡ true → (around q p a ≡ true) × (around q p (a + (p - 1)) ≡ false)
   unfolding runBegins
-  begins-not zero e = e
-  begins-not (suc a) e = rw e
+  begins-has a e = let w = and-parts (around q p a) (not (around q p (a + (p - 1)))) e in (w .0, not-true _ (w .1))
 
-  pub goes-on : (s a : ℕ) → suc s ≡ a → q s ≡ true → runBegins q a ≡ false
+  pub begins-not : (a : ℕ) → around q p a ≡ false → runBegins q p a ≡ false
+  begins-not a e = is-false _ (λ t. clash (begins-has a t .0) e)
+
+  pub goes-on : (a : ℕ) → around q p (a + (p - 1)) ≡ true → runBegins q p a ≡ false
+  goes-on a e = is-false _ (λ t. clash e (begins-has a t .1))
+
+  pub begins-again : (a : ℕ) → runBegins q p (a + p) ≡ runBegins q p a
   unfolding runBegins
-  goes-on s zero i e = absurd (omega arith)
-  goes-on s (suc a) i e = let j : s ≡ a = omega arith in rw (← j, e, and-false)
+  begins-again a = let e : a + p + (p - 1) ≡ a + (p - 1) + p = omega arith in rw (around-again a, e, around-again (a + (p - 1)))
 
-  pub begins-has : (a : ℕ) → runBegins q a ≡ true → q a ≡ true
-  unfolding runBegins
-  begins-has zero e = e
-  begins-has (suc a) e = and-parts (q (suc a)) (not (q a)) e .0
+  -- what a width says
+  pub width-low : (a : ℕ) → width q p a ≤ p
+  unfolding width
+  width-low a = least-is (λ k. not (around q p (a + k))) p .low
 
-  pub begins-after : (s a : ℕ) → suc s ≡ a → runBegins q a ≡ true → q s ≡ false
-  unfolding runBegins
-  begins-after s zero i e = absurd (omega arith)
-  begins-after s (suc a) i e = let j : s ≡ a = omega arith in rw j (not-true _ (and-parts (q (suc a)) (not (q a)) e .1))
+  pub width-each : (a k : ℕ) → k < width q p a → around q p (a + k) ≡ true
+  unfolding width
+  width-each a k l = not-false _ (least-is (λ k. not (around q p (a + k))) p .before k l)
 
-  module _ (n : ℕ) where
-    -- what a width says
-    pub width-fits : (a : ℕ) → a ≤ n → a + width q n a ≤ n
-    unfolding width
-    width-fits a l = omega (arith, least-is (λ k. not (q (a + k))) (n - a) .low)
+  pub width-end : (a : ℕ) → width q p a < p → around q p (a + width q p a) ≡ false
+  unfolding width
+  width-end a l = not-true _ (least-is (λ k. not (around q p (a + k))) p .here l)
 
-    pub width-each : (a s : ℕ) → a ≤ s → s < a + width q n a → q s ≡ true
-    unfolding width
-    width-each a s l h =
-        let e : a + (s - a) ≡ s = omega arith in
-        rw e at (not-false (q (a + (s - a))) (least-is (λ k. not (q (a + k))) (n - a) .before (s - a) (omega arith)))
+  -- and what says that it is the width
+  pub width-at : (a w : ℕ) → w ≤ p → ((k : ℕ) → k < w → around q p (a + k) ≡ true) → (w < p → around q p (a + w) ≡ false) → width q p a ≡ w
+  unfolding width
+  width-at a w l f g = least-at _ p w l (λ k b. ap not (f k b)) (λ b. ap not (g b))
 
-    pub width-end : (a : ℕ) → a + width q n a < n → q (a + width q n a) ≡ false
-    unfolding width
-    width-end a h = not-true _ (least-is (λ k. not (q (a + k))) (n - a) .here (omega arith))
+  pub width-none : (a : ℕ) → around q p a ≡ false → width q p a ≡ 0
+  width-none a e = let i : a + 0 ≡ a = omega arith in width-at a 0 (omega arith) (λ k b. absurd (omega arith)) (λ b. rw i e)
 
-    -- and what says that it is the width
-    pub width-at : (a w : ℕ) → a + w ≤ n → ((s : ℕ) → a ≤ s → s < a + w → q s ≡ true) → (a + w < n → q (a + w) ≡ false) → width q n a ≡ w
-    unfolding width
-    width-at a w l f g =
-        least-at _ (n - a) w (omega arith) (λ k b. ap not (f (a + k) (omega arith) (omega arith))) (λ b. ap not (g (omega arith)))
+  pub width-some : (a : ℕ) → 0 < p → around q p a ≡ true → 0 < width q p a
+  width-some a h e = ⊎-elim (λ l. l) (λ l. clash e (stops (omega arith))) (lt-or-ge 0 (width q p a))
+    where
+      stops : width q p a ≡ 0 → around q p a ≡ false
+      stops z = let i : a + width q p a ≡ a = omega arith in rw i at (width-end a (omega arith))
 
-    pub width-more : (a : ℕ) → a < n → q a ≡ true → width q n a ≡ suc (width q n (suc a))
-    width-more a l e =
-        width-at a (suc (width q n (suc a))) (omega (arith, width-fits (suc a) l))
-        (λ s x y. ⊎-elim (λ b. width-each (suc a) s b (omega arith)) (λ b. let i : s ≡ a = omega arith in rw i e) (lt-or-ge a s))
-        (λ b. let i : a + suc (width q n (suc a)) ≡ suc a + width q n (suc a) = omega arith in rw i (width-end (suc a) (omega arith)))
+  pub width-upto : (a k : ℕ) → around q p (a + k) ≡ false → width q p a ≤ k
+  width-upto a k e = ⊎-elim (λ l. clash (width-each a k l) e) (λ l. l) (lt-or-ge k (width q p a))
 
-    pub width-none : (a : ℕ) → a ≤ n → (a < n → q a ≡ false) → width q n a ≡ 0
-    width-none a l f =
-        let i : a + 0 ≡ a = omega arith in
-        width-at a 0 (omega arith) (λ s x y. absurd (omega arith)) (λ b. rw i (f (omega arith)))
+  pub width-again : (a : ℕ) → width q p (a + p) ≡ width q p a
+  unfolding width
+  width-again a =
+      least-cong _ _ p (λ k l. let e : a + p + k ≡ a + k + p = omega arith in ap not (ap (around q p) e ∙ around-again (a + k)))
 
-    -- one more number: a run begins there, or not
-    pub runs-in : (m : ℕ) → runBegins q m ≡ true → runsBelow q n (suc m) ≡ record { first = m; wide = width q n m } ∷ runsBelow q n m
-    unfolding runsBelow
-    runs-in m e = rw e
+  -- where some slot has not the test, every run ends
+  module _ (u : Ends q p) where
+    pub width-short : (a : ℕ) → width q p a < p
+    width-short a =
+        let some : 0 < p = omega (arith, u .1) in
+        let k = (u .0 + (p - a % p)) % p in
+        let e : around q p (a + k) ≡ false =
+        ap (λ (x : ℕ). q (x % p)) (add-comm a k) ∙ ap q (back-and-there p some a (u .0)) ∙ around-low (u .0) (u .1) ∙ u .2 in
+        omega (arith, width-upto a k e, mod-lt (u .0 + (p - a % p)) some)
 
-    pub runs-out : (m : ℕ) → runBegins q m ≡ false → runsBelow q n (suc m) ≡ runsBelow q n m
-    unfolding runsBelow
-    runs-out m e = rw e
+    pub width-more : (a : ℕ) → around q p a ≡ true → width q p a ≡ suc (width q p (suc a))
+    width-more a e =
+        let w = width q p (suc a) in
+        let f : a + suc w ≡ suc a + w = omega arith in
+        width-at a (suc w) (width-short (suc a)) each (λ _. rw f (width-end (suc a) (width-short (suc a))))
+      where
+        each : (k : ℕ) → k < suc (width q p (suc a)) → around q p (a + k) ≡ true
+        each zero l = let f : a + 0 ≡ a = omega arith in rw f e
+        each (suc k) l = let f : a + suc k ≡ suc a + k = omega arith in rw f (width-each (suc a) k (omega arith))
 
-    -- as many runs as there are numbers where one begins
-    pub runs-number : (m : ℕ) → length (runsBelow q n m) ≡ count (runBegins q) m
-    unfolding runsBelow count length
-    runs-number zero = refl
-    runs-number (suc m) =
-        ⊎-elim (λ e. ap length (runs-in m e) ∙ ap suc (runs-number m) ∙ sym (count-in (runBegins q) m e))
-        (λ e. ap length (runs-out m e) ∙ runs-number m ∙ sym (count-out (runBegins q) m e)) (true-or-false (runBegins q m))
+  -- one more slot: a run begins there, or not
+  pub runs-in : (m : ℕ) → runBegins q p m ≡ true → runsBelow q p (suc m) ≡ record { first = m; wide = width q p m } ∷ runsBelow q p m
+  unfolding runsBelow
+  runs-in m e = rw e
+
+  pub runs-out : (m : ℕ) → runBegins q p m ≡ false → runsBelow q p (suc m) ≡ runsBelow q p m
+  unfolding runsBelow
+  runs-out m e = rw e
+
+  -- as many runs as there are slots where one begins
+  pub runs-number : (m : ℕ) → length (runsBelow q p m) ≡ count (runBegins q p) m
+  unfolding runsBelow count
+  runs-number zero = refl
+  runs-number (suc m) =
+      ⊎-elim (λ e. ap length (runs-in m e) ∙ ap suc (runs-number m) ∙ sym (count-in (runBegins q p) m e))
+      (λ e. ap length (runs-out m e) ∙ runs-number m ∙ sym (count-out (runBegins q p) m e)) (true-or-false (runBegins q p m))

@@ -1,9 +1,9 @@
 -- Worked cases of the report, and each promise used once on one of them. Assumes nothing.
-use mathlib.Core.Path.{_≡_, refl}
+use mathlib.Core.Path.{_≡_, refl, sym, _∙_}
+use mathlib.Core.Bool.{true, cond, _&&_}
 use mathlib.Core.List.{List, [], _∷_}
-use Prim.Native.Nat.{ℕ, _-_, _*_, _≤_}
+use Prim.Native.Nat.{ℕ, _+_, _-_, _*_, _≤_}
 use native.Mathlib.Omega.{arith}
-use lib.ListN.{length}
 use Rattle.ground.specs.Least.{least, oneMore}
 use Rattle.link.specs.Range.{GoodPlan}
 use Rattle.ground.specs.Judging.{first, outside, andThen}
@@ -17,7 +17,7 @@ use Rattle.checker.specs.declared.Checked.the-variants.{Collision}
 use Rattle.checker.proofs.Promises.{collision-is-first}
 use Rattle.checker.proofs.Worked.{collides, not-clear}
 use Rattle.ground.specs.Count.{count}
-use Rattle.report.specs.Runs.{runBegins, width, Run, Longest, runsBelow, runs, widestOf, totalOf}
+use Rattle.report.specs.Runs.{runBegins, beginsOnLine, width, Run, Within, Longest, runsBelow, runs, widestOf, totalOf}
 use Rattle.report.specs.Free.{usedOf, freeOf, isFree, stretchOf}
 use Rattle.report.specs.Answer.{noStretch, said, told, answer}
 use Rattle.report.specs.declared.Stretch.{Stretch}
@@ -25,6 +25,7 @@ use Rattle.report.specs.declared.Reported.{Reported}
 use Rattle.report.specs.declared.Reported.the-variants.{Stretches, Refused}
 use Rattle.report.proofs.Promises.{of, no-second, reports-exactly, not-clear-refused}
 use Rattle.report.proofs.Promises.{counted, summed, left-over, stretches-counted, none-is-wider, one-is-as-wide, full}
+use Rattle.report.proofs.Promises.{in-one-stretch, one-stretch, joined, turning}
 
 abbrev link : ℕ → ℕ → Link
 link p t = record { period = p; size = t }
@@ -34,12 +35,14 @@ three f s w = record { free = f; stretches = s; widest = w }
 
 -- what each answer is
 pub record Table : Type 0 where
-  -- "5, 2, (0) at offset 1: stretches 2, widest 2, free 3 in both crossings."
-  pub both-ends : said (Stretches (three 3 2 2) (three 3 2 2)) ≡ answer (link 5 2) (0 ∷ []) (1 ∷ [])
-  -- a single row with T = P
+  -- "With period 5, size 2, one row at offset 1, each crossing has one stretch, width 3, for delay 0"
+  pub both-ends : said (Stretches (three 3 1 3) (three 3 1 3)) ≡ answer (link 5 2) (0 ∷ []) (1 ∷ [])
+  -- "A single row with T = P still has none."
   pub filled : said (Stretches noStretch noStretch) ≡ answer (link 5 5) (3 ∷ []) (2 ∷ [])
-  -- the crossings differ, and row 0 goes over the end of the period in the second one
+  -- row 0 goes over the end of the period in the second crossing
   pub over-the-end : said (Stretches (three 3 1 3) (three 3 2 2)) ≡ answer (link 7 2) (6 ∷ 1 ∷ []) (0 ∷ 2 ∷ [])
+  -- in the first crossing the slots 9 and 0 are free, in the second one slot 0 alone
+  pub ends-differ : said (Stretches (three 6 2 5) (three 6 2 5)) ≡ answer (link 10 2) (0 ∷ 4 ∷ []) (1 ∷ 4 ∷ [])
   -- row 1 goes over the end of the period in crossing 2, and meets row 0 there
   pub end-meets-start : said (Refused 18 1) ≡ answer (link 10 2) (0 ∷ 7 ∷ []) (0 ∷ 2 ∷ [])
   -- "First table, offsets 0 2 4: collision of rows 0 and 2 in crossing 2."
@@ -49,11 +52,12 @@ pub table : Table
 unfolding said answer told stretchOf freeOf usedOf widestOf runsBelow width runBegins count
     clearFaults blocked free hits either start second uses meets least oneMore
     first outside andThen linkFaults rowFaults offsetFaults
-table = record { both-ends = refl; filled = refl; over-the-end = refl; end-meets-start = refl; not-clear = refl }
+table =
+    record { both-ends = refl; filled = refl; over-the-end = refl; ends-differ = refl; end-meets-start = refl; not-clear = refl }
 
 -- the promises at the first of them
 abbrev free-3 : Stretch
-free-3 = three 3 2 2
+free-3 = three 3 1 3
 
 abbrev ds : List ℕ
 ds = 0 ∷ []
@@ -72,32 +76,54 @@ module _ (c : Crossing) where
   adds-up = summed (link 5 2) ds os (Stretches free-3 free-3) (table .both-ends) _ _ refl c
 
   pub five-less-two : of c free-3 free-3 .free ≡ 5 - 1 * 2
-  unfolding length
   five-less-two = left-over (link 5 2) ds os (Stretches free-3 free-3) (table .both-ends) _ _ refl c
 
-pub two-wide : (s : Run) × Longest (isFree 5 2 ds os one) 5 s × (s .wide ≡ 2)
-two-wide = one-is-as-wide (link 5 2) ds os (Stretches free-3 free-3) (table .both-ends) _ _ refl one (omega arith)
+  pub one-begins : of c free-3 free-3 .stretches ≡ count (runBegins (isFree 5 2 ds os c) 5) 5
+  one-begins = stretches-counted (link 5 2) ds os (Stretches free-3 free-3) (table .both-ends) _ _ refl c
 
-pub not-wider : two-wide .0 .wide ≤ 2
-not-wider = none-is-wider (link 5 2) ds os (Stretches free-3 free-3) (table .both-ends) _ _ refl one (two-wide .0) (two-wide .1)
+pub three-wide : (s : Run) × Longest (isFree 5 2 ds os one) 5 s × (s .wide ≡ 3)
+three-wide = one-is-as-wide (link 5 2) ds os (Stretches free-3 free-3) (table .both-ends) _ _ refl one (omega arith)
+
+pub not-wider : three-wide .0 .wide ≤ 3
+not-wider = none-is-wider (link 5 2) ds os (Stretches free-3 free-3) (table .both-ends) _ _ refl one (three-wide .0) (three-wide .1)
+
+-- the stretch with slot 4 has slot 0 too, and no other one has it
+pub at-the-end : (isFree 5 2 ds os one 4 ≡ true) × (isFree 5 2 ds os one 0 ≡ true)
+unfolding freeOf usedOf start uses least oneMore
+at-the-end = (refl, refl)
+
+pub with-slot-4 : (x : Run) × Longest (isFree 5 2 ds os one) 5 x × Within 5 4 x
+    × ((y : Run) → Longest (isFree 5 2 ds os one) 5 y → Within 5 4 y → y ≡ x)
+with-slot-4 = in-one-stretch (link 5 2) ds os (Stretches free-3 free-3) (table .both-ends) _ _ refl one 4 (omega arith) (at-the-end .0)
+
+pub with-slot-0 : Within 5 0 (with-slot-4 .0)
+with-slot-0 = one-stretch (link 5 2) ds os one (with-slot-4 .0) (with-slot-4 .1) (with-slot-4 .2) (at-the-end .1)
+
+-- turned by three slots, the message goes over the period's end
+pub turned : said (Stretches free-3 free-3) ≡ answer (link 5 2) ds (4 ∷ [])
+turned = table .both-ends ∙ sym (turning (link 5 2) ds os (is-clear .0) 3)
 
 -- and at others
+pub one-joined : (c : Crossing) → of c (three 6 2 5) (three 6 2 5) .stretches
+    + cond (isFree 10 2 (0 ∷ 4 ∷ []) (1 ∷ 4 ∷ []) c 0 && isFree 10 2 (0 ∷ 4 ∷ []) (1 ∷ 4 ∷ []) c 9) 1 0
+    ≡ count (beginsOnLine (isFree 10 2 (0 ∷ 4 ∷ []) (1 ∷ 4 ∷ []) c)) 10
+one-joined c = joined (link 10 2) (0 ∷ 4 ∷ []) (1 ∷ 4 ∷ []) (Stretches (three 6 2 5) (three 6 2 5)) (table .ends-differ) _ _ refl c
+
 pub none-left : (a b : Stretch) → said (Stretches a b) ≡ answer (link 5 5) (3 ∷ []) (2 ∷ []) → (c : Crossing) → of c a b ≡ noStretch
-unfolding length
 none-left a b e c = full (link 5 5) (3 ∷ []) (2 ∷ []) (Stretches a b) e a b refl refl c
 
 -- "First table, offsets 0 2 4": not clear, so 18
+in-range : GoodPlan (link 10 2) (0 ∷ 3 ∷ 7 ∷ []) (0 ∷ 2 ∷ 4 ∷ [])
+in-range = collision-is-first (link 10 2) (0 ∷ 3 ∷ 7 ∷ []) (0 ∷ 2 ∷ 4 ∷ []) (Collision 0 2 2) collides 0 2 2 refl .0
+
 pub eighteen : (r : Reported) → said r ≡ answer (link 10 2) (0 ∷ 3 ∷ 7 ∷ []) (0 ∷ 2 ∷ 4 ∷ []) → (j : ℕ) × (r ≡ Refused 18 j)
 eighteen r e =
     let w = not-clear-refused (link 10 2) (0 ∷ 3 ∷ 7 ∷ []) (0 ∷ 2 ∷ 4 ∷ []) r e in-range not-clear in
     (w .1, w .4)
-  where
-    in-range : GoodPlan (link 10 2) (0 ∷ 3 ∷ 7 ∷ []) (0 ∷ 2 ∷ 4 ∷ [])
-    in-range = collision-is-first (link 10 2) (0 ∷ 3 ∷ 7 ∷ []) (0 ∷ 2 ∷ 4 ∷ []) (Collision 0 2 2) collides 0 2 2 refl .0
 
--- runs that begin: two in each crossing of the first case
-pub two-begin : (c : Crossing) → of c free-3 free-3 .stretches ≡ count (runBegins (isFree 5 2 ds os c)) 5
-two-begin c = stretches-counted (link 5 2) ds os (Stretches free-3 free-3) (table .both-ends) _ _ refl c
+-- and so it is turned by nine slots
+pub turned-eighteen : said (Refused 18 2) ≡ answer (link 10 2) (0 ∷ 3 ∷ 7 ∷ []) (9 ∷ 1 ∷ 3 ∷ [])
+turned-eighteen = table .not-clear ∙ sym (turning (link 10 2) (0 ∷ 3 ∷ 7 ∷ []) (0 ∷ 2 ∷ 4 ∷ []) in-range 9)
 
 pub only-report : (r : Reported) → said r ≡ answer (link 5 2) ds os → r ≡ Stretches free-3 free-3
 only-report r e = no-second (link 5 2) ds os r (Stretches free-3 free-3) e (table .both-ends)

@@ -22,6 +22,6 @@ freeOf p t starts n s = not (usedOf p t starts n s)
 abbrev pub isFree : ℕ → ℕ → List ℕ → List ℕ → Crossing → ℕ → Bool
 isFree p t ds os c = freeOf p t (start p ds os c) (length ds)
 
--- "the number of free slots, the number of free stretches, and the length of the widest", of p slots on a line: q says which are free
+-- "the number of free slots, the number of free stretches, and the length of the widest", of a circle of p slots: q says which are free
 unfoldable pub stretchOf : (ℕ → Bool) → ℕ → Stretch
 stretchOf q p = record { free = count q p; stretches = length (runs q p); widest = widestOf (runs q p) }

@@ -1,42 +1,51 @@
--- Runs of a test q over the numbers 0 .. n-1, on a line. What q is, and where the period is cut into a line, is said elsewhere.
+-- Runs of a test q on a circle of p slots, where slot p-1 is followed by slot 0. What q is, is said elsewhere.
 use mathlib.Core.Path.{_≡_}
 use mathlib.Core.Bool.{Bool, true, false, not, cond, _&&_}
 use mathlib.Core.List.{List, [], _∷_}
-use Prim.Native.Nat.{ℕ, zero, suc, _+_, _-_, _≤_, _<_, max}
+use Prim.Native.Nat.{ℕ, zero, suc, _+_, _-_, _%_, _<_, max}
 use Rattle.ground.specs.Least.{least}
+use Rattle.link.specs.Slots.{Uses}
 
--- a run begins at a: a has q, and the number before it, if there is one, has not
-unfoldable pub runBegins : (ℕ → Bool) → ℕ → Bool
-runBegins q zero = q zero
-runBegins q (suc a) = q (suc a) && not (q a)
+-- q at the slot that is x slots on from slot 0, however often that goes round
+abbrev pub around : (ℕ → Bool) → ℕ → ℕ → Bool
+around q p x = q (x % p)
 
--- how far q goes on from a: up to the least number that has it not, or to n
+-- a run begins at a: a has q, and the slot before it, which is p-1 slots on, has not
+unfoldable pub runBegins : (ℕ → Bool) → ℕ → ℕ → Bool
+runBegins q p a = around q p a && not (around q p (a + (p - 1)))
+
+-- how many slots from a on have q, up to the next one that has not
 unfoldable pub width : (ℕ → Bool) → ℕ → ℕ → ℕ
-width q n a = least (λ k. not (q (a + k))) (n - a)
+width q p a = least (λ k. not (around q p (a + k))) p
+
+-- document 01's runs on the line from slot 0 on, to compare: one begins at slot 0 whatever comes before it
+abbrev pub beginsOnLine : (ℕ → Bool) → ℕ → Bool
+beginsOnLine q zero = q zero
+beginsOnLine q (suc a) = q (suc a) && not (q a)
 
 pub record Run : Type 0 where
   pub first : ℕ
   pub wide : ℕ
 
--- s is one of the run's numbers
-abbrev pub Within : ℕ → Run → Type 0
-Within s r = (r .first ≤ s) × (s < r .first + r .wide)
+-- s is one of the run's slots: they go round as those of a message do
+abbrev pub Within : ℕ → ℕ → Run → Type 0
+Within p s r = Uses p (r .wide) (r .first) s
 
--- "a longest run" of numbers below n that have q: it can't be made longer at either end
-pub record Longest (q : ℕ → Bool) (n : ℕ) (r : Run) : Type 0 where
+-- "a longest run" of slots that have q: neither the slot before it nor the slot after it has q
+pub record Longest (q : ℕ → Bool) (p : ℕ) (r : Run) : Type 0 where
   pub some : 0 < r .wide
-  pub inside : r .first + r .wide ≤ n
-  pub each : (s : ℕ) → Within s r → q s ≡ true
-  pub before : (s : ℕ) → suc s ≡ r .first → q s ≡ false
-  pub after : r .first + r .wide < n → q (r .first + r .wide) ≡ false
+  pub inside : r .first < p
+  pub each : (k : ℕ) → k < r .wide → around q p (r .first + k) ≡ true
+  pub before : around q p (r .first + (p - 1)) ≡ false
+  pub after : around q p (r .first + r .wide) ≡ false
 
--- the runs, one for each number below m where a run begins, the last one first
+-- the runs, one for each slot below m where a run begins, the last one first
 unfoldable pub runsBelow : (ℕ → Bool) → ℕ → ℕ → List Run
-runsBelow q n zero = []
-runsBelow q n (suc m) = cond (runBegins q m) (record { first = m; wide = width q n m } ∷ runsBelow q n m) (runsBelow q n m)
+runsBelow q p zero = []
+runsBelow q p (suc m) = cond (runBegins q p m) (record { first = m; wide = width q p m } ∷ runsBelow q p m) (runsBelow q p m)
 
 abbrev pub runs : (ℕ → Bool) → ℕ → List Run
-runs q n = runsBelow q n n
+runs q p = runsBelow q p p
 
 -- "the length of the widest (0 if none)"
 unfoldable pub widestOf : List Run → ℕ

@@ -3,12 +3,13 @@ use ground::Judged;
 use link::Link;
 use link::limits::MAX_ROWS;
 ghost use mathlib.Core.Path.{_≡_};
-ghost use Prim.Native.Nat.{_≤_, _<_, max};
+ghost use Prim.Native.Nat.{ℕ, _<_, max, min};
 ghost use lib.ListN.{length};
 ghost use Rattle.link.specs.Range.{InRange};
+ghost use Rattle.link.specs.Rows.{Clear};
 ghost use Rattle.report.specs.Answer.{said, answer, told};
 ghost use Rattle.report.specs.Free.{stretchOf};
-ghost use Rattle.report.specs.Steps.{Placed, freeAt, EndsAt, CoveredTo, Nearer, NextStart};
+ghost use Rattle.report.specs.Steps.{Placed, at, freeAt, NextStart};
 
 // The numbers of one crossing.
 pub struct Stretch {
@@ -34,7 +35,7 @@ pub fn report(link: Link, delays: &[u32], offsets: &[u32]) -> Reported
 
 // Both crossings: the offsets are the first one's starts, and the second one's are worked out once.
 fn both(period: u32, size: u32, delays: &[u32], offsets: &[u32]) -> Reported
-    requires { ⌜ (0 < size) × InRange period size (now delays) (now offsets) ⌝ }
+    requires { ⌜ (0 < size) × InRange period size (now delays) (now offsets) × Clear period size (now delays) (now offsets) ⌝ }
     ensures { λ r. ⌜ said r ≡ told period size (now (delays .entry)) (now (offsets .entry)) ⌝ }
 {
     let mut seconds = [0u32; MAX_ROWS];
@@ -48,28 +49,25 @@ fn both(period: u32, size: u32, delays: &[u32], offsets: &[u32]) -> Reported
     Reported::Stretches { first, second }
 }
 
-// The numbers of a crossing with these starts. The walk goes from message to message: slot x is used up to the
-// end of a message, or free up to the next start.
+// The numbers of a crossing with these starts: each message takes its slots, and behind it all is free up to the next start.
 fn crossing(period: u32, size: u32, starts: &[u32]) -> Stretch
     requires { ⌜ Placed period size (now starts) ⌝ }
     ensures { λ r. ⌜ r ≡ stretchOf (freeAt period size (now (starts .entry))) period ⌝ }
 {
-    let mut free = 0;
+    let mut free = period;
     let mut stretches = 0;
     let mut widest = 0;
-    let mut x = 0;
-    while x < period {
-        let end = covered_to(period, size, starts, x);
-        if x < end {
-            x = end;
+    let mut i = 0;
+    while i < starts.len() {
+        let end = link::turn(period, starts[i], size);
+        let run = next_start(period, starts, end);
+        free -= size;
+        i += 1;
+        if run == 0 {
             continue;
         }
-        let next = next_start(period, starts, x);
-        let run = next - x;
-        free += run;
         stretches += 1;
         widest = wider(run, widest);
-        x = next;
     }
     Stretch {
         free,
@@ -84,60 +82,23 @@ fn wider(a: u32, b: u32) -> u32
     if a < b { b } else { a }
 }
 
-// Where a message that uses slot x ends, or x itself if the slot is free.
-fn covered_to(period: u32, size: u32, starts: &[u32], x: u32) -> u32
-    requires { ⌜ Placed period size (now starts) × (x < period) ⌝ }
-    ensures { λ r. ⌜ CoveredTo period size (now (starts .entry)) x r ⌝ }
-{
-    let mut i = 0;
-    while i < starts.len() {
-        let end = ends_at(period, size, starts[i], x);
-        if x < end {
-            return end;
-        }
-        i += 1;
-    }
-    x
-}
-
-// Where the message with this start ends, if it uses slot x, or x itself. A message over slot P-1 goes on at slot 0.
-fn ends_at(period: u32, size: u32, start: u32, x: u32) -> u32
-    requires { ⌜ (start < period) × (size ≤ period) × (x < period) ⌝ }
-    ensures { λ r. ⌜ EndsAt period size start x r ⌝ }
-{
-    let room = period - start;
-    if x < start {
-        if room + x < size {
-            return size - room;
-        }
-        return x;
-    }
-    if size <= x - start {
-        return x;
-    }
-    if size <= room { start + size } else { period }
-}
-
-// The least start at or above x, or the period.
+// How many slots on from x the next message starts, round the period.
 fn next_start(period: u32, starts: &[u32], x: u32) -> u32
-    requires { ⌜ x < period ⌝ }
+    requires { ⌜ (x < period) × ((i : ℕ) → i < length (now starts) → at (now starts) i < period) ⌝ }
     ensures { λ r. ⌜ NextStart period (now (starts .entry)) (length (now (starts .entry))) x r ⌝ }
 {
+    let back = period - x;
     let mut next = period;
-    let mut i = 0;
-    while i < starts.len() {
-        next = nearer(x, starts[i], next);
-        i += 1;
+    let mut j = 0;
+    while j < starts.len() {
+        next = nearer(link::turn(period, starts[j], back), next);
+        j += 1;
     }
     next
 }
 
-// The start a, if it is at or above x and below b; else b.
-fn nearer(x: u32, a: u32, b: u32) -> u32
-    ensures { λ r. ⌜ Nearer x a b r ⌝ }
+fn nearer(a: u32, b: u32) -> u32
+    ensures { λ r. ⌜ r ≡ min a b ⌝ }
 {
-    if a < x {
-        return b;
-    }
-    if a < b { a } else { b }
+    if b < a { b } else { a }
 }

@@ -96,9 +96,9 @@ table =
     -- "1, 1, (0 0): First Fit 13 at row 1; exact 14, tests 2."
     ∷ line (fits 1 1 (0 ∷ 0 ∷ []) (lent 2)) (refused 13 1 (77 ∷ 77 ∷ []))
     ∷ line (searches 1 1 (0 ∷ 0 ∷ []) 2 (lent 2)) (none 14 2 (77 ∷ 77 ∷ []))
-    -- "5, 2, (0) at offset 1: stretches 2, widest 2, free 3 in both crossings."
+    -- "5, 2, (0) at offset 1: stretches 2, widest 2, free 3 in both crossings", since request Two "one stretch, width 3"
     ∷ line (report (reported (linkOf 5 2) (0 ∷ []) (1 ∷ [])))
-    (report (record { verdict = stretches.reported; number = 0; place = 0; first = three 3 2 2; second = three 3 2 2 }))
+    (report (record { verdict = stretches.reported; number = 0; place = 0; first = three 3 1 3; second = three 3 1 3 }))
     -- "First table, offsets 0 2 4: collision of rows 0 and 2 in crossing 2."
     ∷ line (check (checked (linkOf 10 2) ds₁ (0 ∷ 2 ∷ 4 ∷ [])))
     (check (record { verdict = checker.collision; number = 0; place = 0; earlier = 0; later = 2; crossing = 2 }))

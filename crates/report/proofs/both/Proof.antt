@@ -53,7 +53,7 @@ loop-again c =
 crossing-requires : tie.Need-crossing-requires Inv-loop μ-loop
 crossing-requires c κs =
     let pre = c .before .before .before .before .pre in
-    placed (pre .1) (pre .0) (firsts (pre .1))
+    placed (pre .1) (pre .0) (pre .2) (firsts (pre .1))
 
 array-share-prefix-seconds : tie.Need-array-share-prefix-seconds Inv-loop μ-loop
 array-share-prefix-seconds c = let l = c .before .before in fits (l .before .before .before .pre .1) (l .loop .inv)
@@ -67,7 +67,7 @@ crossing-requires-2 : tie.Need-crossing-requires-2 Inv-loop μ-loop
 crossing-requires-2 c κs =
     let l = c .before .before .before in
     let pre = l .before .before .before .pre in
-    placed (pre .1) (pre .0) (seconds (pre .1) (l .loop .inv) (omega arith))
+    placed (pre .1) (pre .0) (pre .2) (seconds (pre .1) (l .loop .inv) (omega arith))
 
 returns : tie.Need-returns Inv-loop μ-loop
 returns c =

@@ -1,45 +1,55 @@
--- Invariant: `next` is the least of the first i starts that is at or above x, or the period.
+-- Invariant: `next` slots on from x is the next of the first j starts, or `next` is the period.
 use mathlib.Core.Path.{_≡_}
 use Prim.Native.Nat.{_-_, _≤_}
 use native.Mathlib.Omega.{arith}
 use lib.ListN.{length}
 use Rattle.report.specs.Steps.{NextStart}
-use Rattle.report.proofs.Covering.{none-yet, one-more}
+use Rattle.report.proofs.Behind.{none-yet, one-more}
 use borrow.Author.Needs.{needs}
 use Rattle.report.proofs.next_start.Statement.{statement}
 use Rattle.report.proofs.next_start.Tie as tie
 
 abbrev Inv-loop : tie.InvT-loop
-Inv-loop period starts x next₀ i₀ next i = (i ≤ length starts) × NextStart period starts i x next
+Inv-loop period starts x back next₀ j₀ next j = (j ≤ length starts) × NextStart period starts j x next
 
 abbrev μ-loop : tie.MeasureT-loop
-μ-loop period starts x next₀ i₀ next i = length starts - i
+μ-loop period starts x back next₀ j₀ next j = length starts - j
+
+sub-back : tie.Need-sub-back Inv-loop μ-loop
+sub-back c = search needs
 
 loop-holds : tie.Need-loop-holds Inv-loop μ-loop
-loop-holds c = (omega arith, none-yet _ _ _ (c .before .pre))
+loop-holds c = (omega arith, none-yet _ _ _)
 
-mul-nearer : tie.Need-mul-nearer Inv-loop μ-loop
-mul-nearer c = search needs
+mul-turn : tie.Need-mul-turn Inv-loop μ-loop
+mul-turn c = search needs
 
-shared-slice-read-nearer : tie.Need-shared-slice-read-nearer Inv-loop μ-loop
-shared-slice-read-nearer c = search needs
+shared-slice-read-turn : tie.Need-shared-slice-read-turn Inv-loop μ-loop
+shared-slice-read-turn c = search needs
+
+turn-requires : tie.Need-turn-requires Inv-loop μ-loop
+turn-requires c κs = (c .before .before .before .before .pre .1 _ (omega arith), omega arith)
 
 nearer-requires : tie.Need-nearer-requires Inv-loop μ-loop
 nearer-requires c κs = search needs
 
-add-i : tie.Need-add-i Inv-loop μ-loop
-add-i c = search needs
+add-j : tie.Need-add-j Inv-loop μ-loop
+add-j c = search needs
 
 loop-less : tie.Need-loop-less Inv-loop μ-loop
 loop-less c = search needs
 
 loop-again : tie.Need-loop-again Inv-loop μ-loop
-loop-again c = (omega arith, one-more _ _ _ _ _ _ (c .before .before .before .loop .inv .1) (c .nearer .ensures))
+loop-again c =
+    let l = c .before .before .before .before in
+    let pre = l .before .before .pre in
+    rw (c .nearer .ensures, c .before .turn .ensures .0)
+    (omega arith, one-more _ _ _ _ _ (pre .0) (pre .1 _ (omega arith)) (l .loop .inv .1))
 
 returns : tie.Need-returns Inv-loop μ-loop
 returns c =
     let inv = c .before .loop .inv in
-    let e : c .before .loop .i ≡ length (c .before .before .before .args .starts .now) = omega arith in
+    let e : c .before .loop .j ≡ length (c .before .before .before .args .starts .now) = omega arith in
     rw e at (inv .1)
 
 pub next-start-spec : {M : Type 1} → statement M
@@ -48,11 +58,13 @@ next-start-spec =
     (tie.spec
     Inv-loop
     μ-loop
+    sub-back
     loop-holds
-    mul-nearer
-    shared-slice-read-nearer
+    mul-turn
+    shared-slice-read-turn
+    turn-requires
     nearer-requires
-    add-i
+    add-j
     loop-less
     loop-again
     returns)

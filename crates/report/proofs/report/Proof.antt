@@ -19,8 +19,8 @@ enum-told c = search needs
 
 both-requires : tie.Need-both-requires
 both-requires c κs =
-    let good = fine-clear _ _ _ (sym (c .before .before .judge-clear .ensures) ∙ c .enum-told .given .1) .0 in
-    (good .table .span-low, in-range _ _ _ good)
+    let good = fine-clear _ _ _ (sym (c .before .before .judge-clear .ensures) ∙ c .enum-told .given .1) in
+    (good .0 .table .span-low, in-range _ _ _ (good .0), good .1)
 
 returns : tie.Need-returns
 unfolding said answer
