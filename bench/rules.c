@@ -585,32 +585,19 @@ static void sort(uint32_t *starts, size_t rows)
     }
 }
 
-/* Walks the slots of one crossing once round, from the first message on; counts[0 .. 2] become
- * free, stretches, widest. */
-static void walk_slots(uint32_t period, uint32_t size, uint32_t *starts, size_t rows,
-                       uint64_t *counts)
+/* The gaps between the messages of one crossing, once round; counts[0 .. 2] become free, stretches,
+ * widest. */
+static void gaps(uint32_t period, uint32_t size, uint32_t *starts, size_t rows, uint64_t *counts)
 {
     sort(starts, rows);
-    uint32_t first = starts[0];
-    uint32_t used = 0; /* slots to come of a message */
-    uint32_t free_slots = 0, stretches = 0, widest = 0, run = 0;
-    size_t next = 0;
-    for (uint32_t slot = first; slot < first + period; slot++) {
-        if (next < rows && slot == starts[next]) {
-            used = size;
-            next++;
-        }
-        if (used > 0) {
-            used--;
-            run = 0;
-            continue;
-        }
-        free_slots++;
-        if (run == 0)
-            stretches++;
-        run++;
-        if (run > widest)
-            widest = run;
+    uint32_t free_slots = 0, stretches = 0, widest = 0;
+    for (size_t row = 0; row < rows; row++) {
+        uint32_t next = row + 1 < rows ? starts[row + 1] : starts[0] + period;
+        uint32_t gap = next - starts[row] - size;
+        free_slots += gap;
+        stretches += gap > 0;
+        if (gap > widest)
+            widest = gap;
     }
     counts[0] = free_slots;
     counts[1] = stretches;
@@ -630,9 +617,9 @@ void rules_report(uint32_t period, uint32_t size, const uint32_t *delays, size_t
     uint32_t starts[MAX_ROWS];
     uint64_t one[3], two[3];
     memcpy(starts, offsets, rows * sizeof *starts);
-    walk_slots(period, size, starts, rows, one);
+    gaps(period, size, starts, rows, one);
     for (size_t row = 0; row < rows; row++)
         starts[row] = second_start(offsets[row], delays[row], period);
-    walk_slots(period, size, starts, rows, two);
+    gaps(period, size, starts, rows, two);
     *answer = (seamwhisk_reported){0, 0, one[0], one[1], one[2], two[0], two[1], two[2]};
 }

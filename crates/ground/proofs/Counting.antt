@@ -137,30 +137,30 @@ earlier : (i n : ℕ) → i < suc n → (i ≡ n → ⊥) → i < n
 earlier i n l d = ⊎-elim (λ m. m) (λ m. absurd (d (omega arith))) (lt-or-ge i n)
 
 -- each number below p that has f is one of the places e 0, .., e (n-1)
-abbrev pub Placed : (ℕ → Bool) → ℕ → (ℕ → ℕ) → ℕ → Type 0
-Placed f p e n = (s : ℕ) → s < p → f s ≡ true → (i : ℕ) × (i < n) × (e i ≡ s)
+abbrev pub AtPlaces : (ℕ → Bool) → ℕ → (ℕ → ℕ) → ℕ → Type 0
+AtPlaces f p e n = (s : ℕ) → s < p → f s ≡ true → (i : ℕ) × (i < n) × (e i ≡ s)
 
-module _ (f : ℕ → Bool) (p : ℕ) (e : ℕ → ℕ) (n : ℕ) (h : Placed f p e (suc n)) where
-  placed-without : Placed (without f (e n)) p e n
-  placed-without s l u =
+module _ (f : ℕ → Bool) (p : ℕ) (e : ℕ → ℕ) (n : ℕ) (h : AtPlaces f p e (suc n)) where
+  places-without : AtPlaces (without f (e n)) p e n
+  places-without s l u =
       let v = and-parts (f s) (not (eqb s (e n))) u in
       let w = h s l (v .0) in
       (w .0, earlier (w .0) n (w .1) (λ d. eqb-false s (e n) (not-true _ (v .1)) (sym (w .2) ∙ ap e d)), w .2)
 
-  placed-out : f (e n) ≡ false → Placed f p e n
-  placed-out t s l u = let w = h s l u in (w .0, earlier (w .0) n (w .1) (λ d. clash (rw (← d, w .2) u) t), w .2)
+  places-out : f (e n) ≡ false → AtPlaces f p e n
+  places-out t s l u = let w = h s l u in (w .0, earlier (w .0) n (w .1) (λ d. clash (rw (← d, w .2) u) t), w .2)
 
 -- where no two places are the same, there are as many numbers below p that have f as places that have it
 pub count-places : (f : ℕ → Bool) (p : ℕ) (e : ℕ → ℕ) (n : ℕ) → ((i : ℕ) → i < n → e i < p)
-    → ((i j : ℕ) → i < j → j < n → e i ≡ e j → ⊥) → Placed f p e n → count f p ≡ count (λ i. f (e i)) n
+    → ((i j : ℕ) → i < j → j < n → e i ≡ e j → ⊥) → AtPlaces f p e n → count f p ≡ count (λ i. f (e i)) n
 unfolding count
 count-places f p e zero low apart h =
     count-gap f 0 p (omega arith) (λ s _ l. is-false (f s) (λ t. let w = h s l t in omega (arith, w .1)))
 count-places f p e (suc n) low apart h =
     let lower : (i : ℕ) → i < n → e i < p = λ i l. low i (omega arith) in
     let differ : (i j : ℕ) → i < j → j < n → e i ≡ e j → ⊥ = λ i j l m. apart i j l (omega arith) in
-    ⊎-elim (λ t. in-last t (count-places (without f (e n)) p e n lower differ (placed-without f p e n h)))
-    (λ t. count-places f p e n lower differ (placed-out f p e n h t) ∙ sym (count-out (λ i. f (e i)) n t)) (true-or-false (f (e n)))
+    ⊎-elim (λ t. in-last t (count-places (without f (e n)) p e n lower differ (places-without f p e n h)))
+    (λ t. count-places f p e n lower differ (places-out f p e n h t) ∙ sym (count-out (λ i. f (e i)) n t)) (true-or-false (f (e n)))
   where
     -- the last place, and the others
     in-last : f (e n) ≡ true → count (without f (e n)) p ≡ count (λ i. without f (e n) (e i)) n

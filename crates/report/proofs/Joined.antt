@@ -11,6 +11,14 @@ use Rattle.ground.proofs.Counting.{count-front, count-cong}
 use Rattle.ground.proofs.Remainders.{same-on}
 use Rattle.report.specs.Runs.{runBegins, beginsOnLine, Run, Within, Longest}
 
+abbrev one-if : Bool → ℕ
+one-if b = cond b 1 0
+
+split : (x y : Bool) → one-if (x && not y) + one-if (x && y) ≡ one-if x
+split true true = refl
+split true false = refl
+split false y = refl
+
 module _ (q : ℕ → Bool) where
   -- a run with the last slot goes on to slot 0, if that has the test
   pub over-the-end : (p : ℕ) (r : Run) → Longest q p r → Within p (p - 1) r → q 0 ≡ true → Within p 0 r
@@ -45,14 +53,7 @@ module _ (q : ℕ → Bool) where
       let before : m % suc m ≡ m = mod-eq-of-lt (omega arith) in
       rw (e, here, before)
 
-  abbrev one-if : Bool → ℕ
-  one-if b = cond b 1 0
-
-  split : (x y : Bool) → one-if (x && not y) + one-if (x && y) ≡ one-if x
-  split true true = refl
-  split true false = refl
-  split false y = refl
-
+  -- so there is one less on the circle where the first slot and the last have the test
   pub one-less : (p : ℕ) → 0 < p → count (runBegins q p) p + cond (q 0 && q (p - 1)) 1 0 ≡ count (beginsOnLine q) p
   one-less zero h = absurd (omega arith)
   one-less (suc m) h =

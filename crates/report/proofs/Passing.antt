@@ -18,7 +18,7 @@ use Rattle.report.specs.Runs.{width, Run, runs, widestOf}
 use Rattle.report.specs.Free.{stretchOf}
 use Rattle.report.specs.Steps.{Placed, at, freeAt, endOf, behind, NextStart}
 use Rattle.report.proofs.Widths.{runs-number}
-use Rattle.report.proofs.Stretches.{member-from, has-from, none-wider, one-as-wide, none-none}
+use Rattle.report.proofs.Stretches.{member-from, has-from, none-wider, widest-upto}
 use Rattle.report.proofs.Total.{count-free}
 use Rattle.report.proofs.Behind.{end-low, behind-is, begins-behind, ends-here, stretches-behind}
 
@@ -88,6 +88,7 @@ module _ {p t : ℕ} {xs : List ℕ} (h : Placed p t xs) {i free k w : ℕ} (v :
     all : i ≡ length xs
     all = omega (arith, v .row)
 
+    -- what lies behind a message is a run, and a run lies behind a message
     behind-one : (j : ℕ) → j < length xs → 0 < behind p t xs j → behind p t xs j ≤ widestOf (runs (freeAt p t xs) p)
     unfolding behind
     behind-one j l s =
@@ -101,7 +102,6 @@ module _ {p t : ℕ} {xs : List ℕ} (h : Placed p t xs) {i free k w : ℕ} (v :
         let e = ends-here h (a .0) (a .1) (a .2) in
         (e .0, e .1, ap (λ (x : Run). x .wide) (a .3) ∙ ap (width (freeAt p t xs) p) (sym (e .2)))
 
-    -- the widest behind a message is the widest run
     not-above : w ≤ widestOf (runs (freeAt p t xs) p)
     not-above =
         ⊎-elim (λ s. let d = v .as-wide s in omega (arith, d .2, behind-one (d .0) (omega (arith, d .1, v .row)) (omega (arith, d .2))))
@@ -109,10 +109,8 @@ module _ {p t : ℕ} {xs : List ℕ} (h : Placed p t xs) {i free k w : ℕ} (v :
 
     not-below : widestOf (runs (freeAt p t xs) p) ≤ w
     not-below =
-        ⊎-elim (λ s. let d = one-as-wide (runs (freeAt p t xs) p) s in
-        let e = one-behind (d .0) (d .1) in
-        omega (arith, d .2, e .2, v .none-wider (e .0) (omega (arith, e .1))))
-        (λ s. omega (arith, none-none (runs (freeAt p t xs) p) s)) (lt-or-ge 0 (length (runs (freeAt p t xs) p)))
+        widest-upto (runs (freeAt p t xs) p) w
+        (λ r d. let e = one-behind r d in omega (arith, e .2, v .none-wider (e .0) (omega (arith, e .1))))
 
     pub arrived : record { free = free; stretches = k; widest = w } ≡ stretchOf (freeAt p t xs) p
     unfolding stretchOf

@@ -120,7 +120,7 @@ module _ (q : ℕ → Bool) (p : ℕ) where
 
   -- each slot with the test lies in a run of the list
   pub in-one : Ends q p → (s : ℕ) → s < p → q s ≡ true → (r : Run) × List·Memᴰ r (runs q p) × Within p s r
-  in-one u s l e = in-this s (least back p) l e (least-is back p) (⊎-elim (behind (u .0)) (ahead (u .0)) (lt-or-ge s (u .0)))
+  in-one u s l e = in-this s (least back p) l e (least-is back p) (⊎-elim behind ahead (lt-or-ge s (u .0)))
     where
       back : ℕ → Bool
       back i = not (around q p (s + (p - i)))
@@ -128,13 +128,13 @@ module _ (q : ℕ → Bool) (p : ℕ) where
       found : (j : ℕ) → j < p → around q p (s + (p - j)) ≡ false → least back p < p
       found j b f = ⊎-elim (λ m. m) (λ m. clash (ap not f) (least-is back p .before j (omega arith))) (lt-or-ge (least back p) p)
 
-      behind : (v : ℕ) → s < u .0 → least back p < p
-      behind v m =
+      behind : s < u .0 → least back p < p
+      behind m =
           let i : s + (p - (s + p - u .0)) ≡ u .0 = omega (arith, u .1) in
           found (s + p - u .0) (omega arith) (rw i (around-low q p (u .0) (u .1) ∙ u .2))
 
-      ahead : (v : ℕ) → u .0 ≤ s → least back p < p
-      ahead v m =
+      ahead : u .0 ≤ s → least back p < p
+      ahead m =
           let i : s + (p - (s - u .0)) ≡ u .0 + p = omega arith in
           found (s - u .0) (omega arith) (rw i (around-again q p (u .0) ∙ around-low q p (u .0) (u .1) ∙ u .2))
 
@@ -173,10 +173,10 @@ unfolding widestOf
 none-wider l r (List·Memᴰ·head {x} {xs} e) = omega (arith, ap (λ (y : Run). y .wide) e)
 none-wider l r (List·Memᴰ·tail {x} {xs} h) = omega (arith, none-wider xs r h)
 
-pub none-none : (l : List Run) → length l ≤ 0 → widestOf l ≡ 0
+pub widest-upto : (l : List Run) (k : ℕ) → ((r : Run) → List·Memᴰ r l → r .wide ≤ k) → widestOf l ≤ k
 unfolding widestOf
-none-none [] h = refl
-none-none (r ∷ l) h = absurd (omega arith)
+widest-upto [] k h = omega arith
+widest-upto (r ∷ l) k h = omega (arith, h r (List·Memᴰ·head refl), widest-upto l k (λ x m. h x (List·Memᴰ·tail m)))
 
 -- a run of the list that is as wide as k
 abbrev AsWide : List Run → ℕ → Type 0

@@ -1,7 +1,6 @@
 -- The circle turned by r slots: the same numbers of it. Assumes nothing.
 use mathlib.Core.Path.{_≡_, sym, _∙_, ap}
 use mathlib.Core.Bool.{Bool, not}
-use mathlib.Core.Logic.{⊎-elim}
 use mathlib.Core.List.{List}
 use Prim.Native.Nat.{ℕ, _+_, _-_, _%_, _≤_, _<_}
 use native.Mathlib.Omega.{arith}
@@ -9,7 +8,6 @@ use native.Mathlib.Nat.{mod-lt, mod-add-mod}
 use lib.Dec.{ltb}
 use lib.ListN.{length}
 use Rattle.ground.specs.Count.{count}
-use Rattle.ground.proofs.Bools.{lt-or-ge}
 use Rattle.ground.proofs.Counting.{count-cong, count-turn}
 use Rattle.ground.proofs.Minimum.{least-cong}
 use Rattle.ground.proofs.Remainders.{back-and-there}
@@ -18,7 +16,7 @@ use Rattle.link.proofs.Turning.{uses-moved, start-moved}
 use Rattle.report.specs.Runs.{around, runBegins, Run, Longest, runs, widestOf}
 use Rattle.report.specs.Free.{usedOf, freeOf, isFree, stretchOf}
 use Rattle.report.proofs.Widths.{around-again, around-from, around-low, begins-again, runs-number}
-use Rattle.report.proofs.Stretches.{exactly-longest, none-wider, one-as-wide, none-none}
+use Rattle.report.proofs.Stretches.{exactly-longest, none-wider, widest-upto}
 
 -- v is q, turned: what q has at a slot, v has r slots on
 abbrev Turns : ℕ → ℕ → (ℕ → Bool) → (ℕ → Bool) → Type 0
@@ -60,10 +58,8 @@ module _ (p r : ℕ) (q v : ℕ → Bool) (some : 0 < p) (h : Turns p r q v) whe
 
   not-wider : widestOf (runs q p) ≤ widestOf (runs v p)
   not-wider =
-      ⊎-elim (λ l. let w = one-as-wide (runs q p) l in
-      let s = longest-turned (w .0) (exactly-longest q p (w .0) .0 (w .1)) in
-      omega (arith, w .2, none-wider (runs v p) _ (exactly-longest v p _ .1 s)))
-      (λ l. omega (arith, none-none (runs q p) l)) (lt-or-ge 0 (length (runs q p)))
+      widest-upto (runs q p) (widestOf (runs v p))
+      (λ s m. none-wider (runs v p) _ (exactly-longest v p _ .1 (longest-turned s (exactly-longest q p s .0 m))))
 
 same-turned : (p r : ℕ) (q v : ℕ → Bool) → 0 < p → Turns p r q v → stretchOf q p ≡ stretchOf v p
 unfolding stretchOf

@@ -49,10 +49,6 @@ module _ (q : ℕ → Bool) (p : ℕ) where
   begins-again a = let e : a + p + (p - 1) ≡ a + (p - 1) + p = omega arith in rw (around-again a, e, around-again (a + (p - 1)))
 
   -- what a width says
-  pub width-low : (a : ℕ) → width q p a ≤ p
-  unfolding width
-  width-low a = least-is (λ k. not (around q p (a + k))) p .low
-
   pub width-each : (a k : ℕ) → k < width q p a → around q p (a + k) ≡ true
   unfolding width
   width-each a k l = not-false _ (least-is (λ k. not (around q p (a + k))) p .before k l)

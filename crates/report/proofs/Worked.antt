@@ -1,8 +1,8 @@
 -- Worked cases of the report, and each promise used once on one of them. Assumes nothing.
 use mathlib.Core.Path.{_≡_, refl, sym, _∙_}
-use mathlib.Core.Bool.{true, cond, _&&_}
+use mathlib.Core.Bool.{true, false, cond, _&&_}
 use mathlib.Core.List.{List, [], _∷_}
-use Prim.Native.Nat.{ℕ, _+_, _-_, _*_, _≤_}
+use Prim.Native.Nat.{ℕ, _+_, _-_, _*_, _≤_, _<_}
 use native.Mathlib.Omega.{arith}
 use Rattle.ground.specs.Least.{least, oneMore}
 use Rattle.link.specs.Range.{GoodPlan}
@@ -25,7 +25,7 @@ use Rattle.report.specs.declared.Reported.{Reported}
 use Rattle.report.specs.declared.Reported.the-variants.{Stretches, Refused}
 use Rattle.report.proofs.Promises.{of, no-second, reports-exactly, not-clear-refused}
 use Rattle.report.proofs.Promises.{counted, summed, left-over, stretches-counted, none-is-wider, one-is-as-wide, full}
-use Rattle.report.proofs.Promises.{in-one-stretch, one-stretch, joined, turning}
+use Rattle.report.proofs.Promises.{some-used, in-one-stretch, one-stretch, joined, turning}
 
 abbrev link : ℕ → ℕ → Link
 link p t = record { period = p; size = t }
@@ -77,6 +77,9 @@ module _ (c : Crossing) where
 
   pub five-less-two : of c free-3 free-3 .free ≡ 5 - 1 * 2
   five-less-two = left-over (link 5 2) ds os (Stretches free-3 free-3) (table .both-ends) _ _ refl c
+
+  pub some-slot-used : (u : ℕ) × (u < 5) × (isFree 5 2 ds os c u ≡ false)
+  some-slot-used = some-used (link 5 2) ds os (Stretches free-3 free-3) (table .both-ends) _ _ refl c
 
   pub one-begins : of c free-3 free-3 .stretches ≡ count (runBegins (isFree 5 2 ds os c) 5) 5
   one-begins = stretches-counted (link 5 2) ds os (Stretches free-3 free-3) (table .both-ends) _ _ refl c

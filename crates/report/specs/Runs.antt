@@ -14,7 +14,7 @@ around q p x = q (x % p)
 unfoldable pub runBegins : (ℕ → Bool) → ℕ → ℕ → Bool
 runBegins q p a = around q p a && not (around q p (a + (p - 1)))
 
--- how many slots from a on have q, up to the next one that has not
+-- how many slots from a on have q before one has not; p where all have
 unfoldable pub width : (ℕ → Bool) → ℕ → ℕ → ℕ
 width q p a = least (λ k. not (around q p (a + k))) p
 
