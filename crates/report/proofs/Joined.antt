@@ -1,15 +1,16 @@
 -- "a run at the end and a run at the start are one stretch". Assumes nothing.
 use mathlib.Core.Path.{_≡_, refl, sym, _∙_, ap}
 use mathlib.Core.Bool.{Bool, true, false, not, cond, _&&_}
-use mathlib.Core.Logic.{⊎-elim}
+use mathlib.Core.Logic.{inl, inr}
 use Prim.Native.Nat.{ℕ, zero, suc, _+_, _-_, _%_, _<_}
 use native.Mathlib.Omega.{arith}
 use native.Mathlib.Nat.{mod-self, mod-eq-of-lt, add-mod-right}
 use Rattle.ground.specs.Count.{count}
-use Rattle.ground.proofs.Bools.{clash, lt-or-ge}
 use Rattle.ground.proofs.Counting.{count-front, count-cong}
-use Rattle.ground.proofs.Remainders.{same-on}
-use Rattle.report.specs.Runs.{runBegins, beginsOnLine, Run, Within, Longest}
+use Rattle.link.proofs.Circle.{Turned, turned}
+use Rattle.report.specs.Runs.{around, runBegins, width, beginsOnLine, Run, Within, Longest}
+use Rattle.report.proofs.Widths.{around-again, around-low, width-at, width-some}
+use Rattle.report.proofs.Stretches.{short}
 
 abbrev one-if : Bool → ℕ
 one-if b = cond b 1 0
@@ -20,21 +21,40 @@ split true false = refl
 split false y = refl
 
 module _ (q : ℕ → Bool) where
-  -- a run with the last slot goes on to slot 0, if that has the test
-  pub over-the-end : (p : ℕ) (r : Run) → Longest q p r → Within p (p - 1) r → q 0 ≡ true → Within p 0 r
-  over-the-end p r w u e =
-      ⊎-elim (λ l. (u .0 + 1, l, rw d at next)) (λ l. clash e (ends (omega (arith, u .1)))) (lt-or-ge (u .0 + 1) (r .wide))
-    where
-      d : r .first + u .0 + 1 ≡ r .first + (u .0 + 1)
-      d = omega arith
+  -- a run with the last slot
+  module _ (p : ℕ) (r : Run) (w : Longest q p r) (u : Within p (p - 1) r) where
+    at-the-end : r .first + u .0 ≡ p - 1
+    at-the-end = go (turned p (r .first + u .0) (omega (arith, w .inside, u .1, short q p r w))) (u .2)
+      where
+        go : {s : ℕ} → Turned p (r .first + u .0) s → s ≡ p - 1 → r .first + u .0 ≡ p - 1
+        go (inl v) e = omega arith
+        go (inr v) e = omega (arith, w .inside, u .1, short q p r w)
 
-      next : (r .first + u .0 + 1) % p ≡ 0
-      next =
-          let i : p - 1 + 1 ≡ p = omega (arith, w .inside) in
-          same-on p (r .first + u .0) (p - 1) 1 (u .2 ∙ sym (mod-eq-of-lt (omega (arith, w .inside)))) ∙ rw i (mod-self p)
+    -- goes up to it, and on from slot 0 as far as the test goes there
+    pub both-parts : r .wide ≡ (p - r .first) + width q p 0
+    both-parts =
+        let rest = r .wide - (p - r .first) in
+        omega (arith, at-the-end, u .1, width-at q p 0 rest (omega (arith, short q p r w)) each (λ _. after))
+      where
+        there : (k : ℕ) → around q p (0 + k) ≡ around q p (r .first + ((p - r .first) + k))
+        there k =
+            let e : r .first + ((p - r .first) + k) ≡ 0 + k + p = omega (arith, w .inside) in
+            sym (ap (around q p) e ∙ around-again q p (0 + k))
 
-      ends : u .0 + 1 ≡ r .wide → q 0 ≡ false
-      ends i = ap q (sym (rw d at next)) ∙ rw (← i) at (w .after)
+        each : (k : ℕ) → k < r .wide - (p - r .first) → around q p (0 + k) ≡ true
+        each k l = there k ∙ w .each ((p - r .first) + k) (omega arith)
+
+        after : around q p (0 + (r .wide - (p - r .first))) ≡ false
+        after =
+            let e : (p - r .first) + (r .wide - (p - r .first)) ≡ r .wide = omega (arith, at-the-end, u .1) in
+            there (r .wide - (p - r .first)) ∙ rw e (w .after)
+
+    pub over-the-end : q 0 ≡ true → Within p 0 r
+    over-the-end e =
+        let some : 0 < p = omega (arith, w .inside) in
+        let more = width-some q p 0 some (around-low q p 0 some ∙ e) in
+        let d : r .first + (p - r .first) ≡ p = omega (arith, w .inside) in
+        (p - r .first, omega (arith, both-parts), rw d (mod-self p))
 
   -- behind slot 0 a run begins on the circle where it begins on the line
   later : (m i : ℕ) → i < m → runBegins q (suc m) (suc i) ≡ beginsOnLine q (suc i)

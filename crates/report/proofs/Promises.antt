@@ -23,7 +23,7 @@ use Rattle.checker.specs.Order.{FirstCollision}
 use Rattle.checker.proofs.Judging.{clear-fine, fine-clear, unclear, judged-moved}
 use Rattle.ground.specs.Count.{count}
 use Rattle.ground.proofs.Counting.{count-not, count-some}
-use Rattle.report.specs.Runs.{runBegins, beginsOnLine, Run, Within, Longest, runs, totalOf}
+use Rattle.report.specs.Runs.{runBegins, width, beginsOnLine, Run, Within, Longest, runs, totalOf}
 use Rattle.report.specs.Free.{isFree, stretchOf}
 use Rattle.report.specs.Answer.{Verdict, reported, refused as refusedly, Said, noStretch, telling, refusing, said, told, answer}
 use Rattle.report.specs.declared.Stretch.{Stretch}
@@ -33,7 +33,7 @@ use Rattle.report.proofs.Widths.{runs-number}
 use Rattle.report.proofs.Stretches.{exactly-longest, in-one, in-no-second, none-wider, one-as-wide}
 use Rattle.report.proofs.Summed.{total-count, nothing-free}
 use Rattle.report.proofs.Total.{free-total}
-use Rattle.report.proofs.Joined.{over-the-end, one-less}
+use Rattle.report.proofs.Joined.{both-parts, over-the-end, one-less}
 use Rattle.report.proofs.Turning.{same-numbers}
 
 abbrev unsaidAs : Verdict → Said → Reported
@@ -107,19 +107,22 @@ module _ (k : Link) (ds os : List ℕ) where
           let total = free-total (k .period) (spanOf k) (k .size) ds os (in-range k ds os (w .0)) (omega arith) (w .1) c in
           omega (arith, ap (λ (s : Stretch). s .free) (numbers c))
 
+      -- some slot is used, so no stretch goes all the way round
+      pub some-used : (c : Crossing) → (u : ℕ) × (u < k .period) × (freeIn c u ≡ false)
+      unfolding stretchOf
+      some-used c =
+          let g = fine-clear k ds os (told-so a b f .0) .0 .table in
+          let rows = mul-le-mul-right (k .size) (g .rows-low) in
+          let free = ap (λ (s : Stretch). s .free) (numbers c) in
+          let used : 0 < count (λ s. not (freeIn c s)) (k .period) =
+          omega (arith, free, count-not (freeIn c) (k .period), with-used c, g .span-low) in
+          let w = count-some (λ s. not (freeIn c s)) (k .period) used in
+          (w .0, w .1, not-true _ (w .2))
+
       -- "The free slots are counted slot by slot;
       pub counted : (c : Crossing) → of c a b .free ≡ count (freeIn c) (k .period)
       unfolding stretchOf
       counted c = ap (λ (s : Stretch). s .free) (numbers c)
-
-      -- some slot is used, so no stretch goes all the way round
-      pub some-used : (c : Crossing) → (u : ℕ) × (u < k .period) × (freeIn c u ≡ false)
-      some-used c =
-          let g = fine-clear k ds os (told-so a b f .0) .0 .table in
-          let used = mul-le-mul-right (k .size) (g .rows-low) in
-          let free = count-not (freeIn c) (k .period) in
-          let w = count-some (λ s. not (freeIn c s)) (k .period) (omega (arith, counted c, with-used c, g .span-low)) in
-          (w .0, w .1, not-true _ (w .2))
 
       -- they, the lengths of the stretches summed,
       pub summed : (c : Crossing) → of c a b .free ≡ totalOf (runs (freeIn c) (k .period))
@@ -143,7 +146,7 @@ module _ (k : Link) (ds os : List ℕ) where
           let m = exactly-longest (freeIn c) (k .period) (w .0) .0 (w .1) in
           (w .0, m, w .2, λ y n v. in-no-second (freeIn c) (k .period) s y (w .0) n m v (w .2))
 
-      -- "a run at the end and a run at the start are one stretch": one less than there are runs on the line from slot 0 to slot P-1
+      -- "a run at the end and a run at the start are one stretch": there is one less than on the line from slot 0 to slot P-1
       pub joined : (c : Crossing) → of c a b .stretches + cond (freeIn c 0 && freeIn c (k .period - 1)) 1 0
           ≡ count (beginsOnLine (freeIn c)) (k .period)
       joined c =
@@ -168,10 +171,13 @@ module _ (k : Link) (ds os : List ℕ) where
       pub full : length ds * k .size ≡ k .period → (c : Crossing) → of c a b ≡ noStretch
       full h c = numbers c ∙ nothing-free (freeIn c) (k .period) (omega (arith, counted c, with-used c))
 
-  -- a stretch with slot P-1 has slot 0 too, if that is free
-  pub one-stretch : (c : Crossing) (x : Run) → Longest (freeIn c) (k .period) x → Within (k .period) (k .period - 1) x
-      → freeIn c 0 ≡ true → Within (k .period) 0 x
-  one-stretch c x = over-the-end (freeIn c) (k .period) x
+  -- a stretch with slot P-1 has slot 0 too, if that is free; it is as wide as its part up to slot P-1 and what is free from slot 0 on
+  module _ (c : Crossing) (x : Run) (w : Longest (freeIn c) (k .period) x) (u : Within (k .period) (k .period - 1) x) where
+    pub one-stretch : freeIn c 0 ≡ true → Within (k .period) 0 x
+    one-stretch = over-the-end (freeIn c) (k .period) x w u
+
+    pub wide-as-both : x .wide ≡ (k .period - x .first) + width (freeIn c) (k .period) 0
+    wide-as-both = both-parts (freeIn c) (k .period) x w u
 
   -- turning the circle changes nothing: all offsets of a plan in range moved on by r slots, modulo P, give the same answer
   pub turning : GoodPlan k ds os → (r : ℕ) → answer k ds (movedOn (k .period) r os) ≡ answer k ds os

@@ -61,7 +61,7 @@ module _ (q : ℕ → Bool) (p : ℕ) where
         after = width-end q p a (omega arith);
       }
 
-  short : (r : Run) → Longest q p r → r .wide < p
+  pub short : (r : Run) → Longest q p r → r .wide < p
   short r w = ⊎-elim (λ l. l) (λ l. clash (w .each (p - 1) (omega (arith, w .inside))) (w .before)) (lt-or-ge (r .wide) p)
 
   from-longest : (r : Run) → Longest q p r → (runBegins q p (r .first) ≡ true) × (r ≡ from (r .first))

@@ -25,7 +25,7 @@ use Rattle.report.specs.declared.Reported.{Reported}
 use Rattle.report.specs.declared.Reported.the-variants.{Stretches, Refused}
 use Rattle.report.proofs.Promises.{of, no-second, reports-exactly, not-clear-refused}
 use Rattle.report.proofs.Promises.{counted, summed, left-over, stretches-counted, none-is-wider, one-is-as-wide, full}
-use Rattle.report.proofs.Promises.{some-used, in-one-stretch, one-stretch, joined, turning}
+use Rattle.report.proofs.Promises.{some-used, in-one-stretch, one-stretch, wide-as-both, joined, turning}
 
 abbrev link : ℕ → ℕ → Link
 link p t = record { period = p; size = t }
@@ -101,6 +101,9 @@ with-slot-4 = in-one-stretch (link 5 2) ds os (Stretches free-3 free-3) (table .
 
 pub with-slot-0 : Within 5 0 (with-slot-4 .0)
 with-slot-0 = one-stretch (link 5 2) ds os one (with-slot-4 .0) (with-slot-4 .1) (with-slot-4 .2) (at-the-end .1)
+
+pub two-and-one : with-slot-4 .0 .wide ≡ (5 - with-slot-4 .0 .first) + width (isFree 5 2 ds os one) 5 0
+two-and-one = wide-as-both (link 5 2) ds os one (with-slot-4 .0) (with-slot-4 .1) (with-slot-4 .2)
 
 -- turned by three slots, the message goes over the period's end
 pub turned : said (Stretches free-3 free-3) ≡ answer (link 5 2) ds (4 ∷ [])
