@@ -12,7 +12,7 @@ use Rattle.ground.specs.Judging.{first, outside, andThen}
 use Rattle.search.specs.Refusal.{exactFaults}
 use Rattle.link.specs.Refusal.{linkFaults, rowFaults, roomFaults}
 use Rattle.link.specs.Rows.{second, start, hits, either}
-use Rattle.link.specs.Slots.{uses, meets}
+use Rattle.link.specs.Slots.{uses, after, meets}
 use Rattle.text.specs.Bytes as bytes
 use Rattle.text.specs.Decimal as decimal
 use Rattle.text.specs.Faults as faults
@@ -61,7 +61,7 @@ unfolding printed reader.reading reader.accepted reader.delaysOf faults.readFaul
     planned rowFaults roomFaults exactFaults search.within search.outcome search.exactly
     builds.order builds.orderSteps builds.behind builds.sequences builds.leads builds.allGood builds.isWhole builds.firstOf
     countIn builds.counted builds.leastBuild ceilings.product ceilings.products ceilings.choices ceilings.ceilingOf
-    ceilings.ceilingUpTo steps.placed from steps.besides steps.rowSteps steps.steps steps.after steps.offsetOf steps.puts
+    ceilings.ceilingUpTo steps.placed from steps.besides steps.rowSteps steps.steps after steps.offsetOf steps.puts
     steps.inTheWay steps.good steps.put second start hits either meets uses foundLines offsetLines digitsIn
 finds = refl
 

@@ -8,7 +8,7 @@ use native.Mathlib.Nat.{mod-lt, mod-eq-of-lt, mod-eq-sub-mod}
 use lib.Dec.{leb, eqb}
 use borrow.Author.Tests.{ltb-true, leb-true, le-leb, eqb-true, eq-eqb}
 use Rattle.ground.specs.Least.{least, some}
-use Rattle.link.specs.Slots.{uses, meets, differ, gap, apartb, Uses, Meet}
+use Rattle.link.specs.Slots.{uses, after, meets, differ, gap, apartb, Uses, Meet}
 use Rattle.ground.proofs.Bools.{clash, is-false, lt-or-ge, same-test, and-parts, and-both}
 use Rattle.ground.proofs.Minimum.{some-at, some-none, some-has}
 
@@ -50,6 +50,10 @@ turned-high p x r e h = go (turned p x (omega arith))
     go : {y : ℕ} → Turned p x y → r ≡ y
     go (inl u) = omega arith
     go (inr u) = omega arith
+
+pub after-low : (p : ℕ) → 0 < p → (l a : ℕ) → after p l a < p
+unfolding after
+after-low p h l a = mod-lt (a + l) h
 
 module _ (p l a b : ℕ) (ha : a < p) (hb : b < p) (hl : l ≤ p) where
   -- 01's difference test is the linear one

@@ -9,6 +9,7 @@ use lib.ListN.{length, getD, take}
 use lib.Seq.{length-take-le, getD-take}
 use borrow.Author.Tests.{ltb-true}
 use Rattle.ground.specs.Least.{least, some}
+use Rattle.link.specs.Slots.{after}
 use Rattle.link.specs.Rows.{Crossing, one, two, numbered, second, startAt, start, hits, either, free, firstHit, metAt, near}
 use Rattle.link.specs.Rows.{firstNear, isNobody}
 use Rattle.link.specs.declared.Met.{Met}
@@ -61,6 +62,11 @@ first-hit-cong h g n f = go (some (either g) n) refl
 pub second-low : (p d a : ℕ) → 0 < p → second p d a < p
 unfolding second
 second-low p d a h = mod-lt _ h
+
+-- a turn by l slots comes to the slot after them
+pub second-after : (p l a : ℕ) → second p l a ≡ after p l a
+unfolding second after
+second-after p l a = refl
 
 pub start-low : (p : ℕ) (c : Crossing) (d a : ℕ) → a < p → startAt p c d a < p
 start-low p one d a h = h

@@ -9,6 +9,10 @@ use Rattle.ground.specs.Least.{some}
 unfoldable pub uses : ℕ → ℕ → ℕ → ℕ → Bool
 uses p l a s = some (λ k. eqb ((a + k) % p) s) l
 
+-- the slot right after the last of the l slots from a
+unfoldable pub after : ℕ → ℕ → ℕ → ℕ
+after p l a = (a + l) % p
+
 -- "Two different rows meet in a crossing when they use a common slot there."
 unfoldable pub meets : ℕ → ℕ → ℕ → ℕ → Bool
 meets p l a b = some (λ s. uses p l a s && uses p l b s) p

@@ -5,7 +5,7 @@ use mathlib.Core.Logic.{⊎-elim}
 use mathlib.Core.List.{List}
 use Prim.Native.Nat.{ℕ, zero, suc, _+_, _-_, _%_, _≤_, _<_, min}
 use native.Mathlib.Omega.{arith}
-use native.Mathlib.Nat.{mod-lt, mod-eq-of-lt, mod-add-mod, add-mod-mod, add-mod-right, add-comm}
+use native.Mathlib.Nat.{mod-eq-of-lt, mod-add-mod, add-mod-mod, add-mod-right, add-comm}
 use lib.Dec.{ltb}
 use lib.ListN.{length}
 use borrow.Author.Count.{below-none, below-more}
@@ -15,7 +15,8 @@ use Rattle.ground.proofs.Bools.{clash, lt-or-ge, true-or-false}
 use Rattle.ground.proofs.Counting.{count-cong, count-places}
 use Rattle.ground.proofs.Remainders.{same-on, same-back}
 use Rattle.link.specs.Rows.{second}
-use Rattle.link.specs.Slots.{Uses}
+use Rattle.link.specs.Slots.{after, Uses}
+use Rattle.link.proofs.Circle.{after-low}
 use Rattle.report.specs.Runs.{around, runBegins, width}
 use Rattle.report.specs.Steps.{Placed, at, freeAt, endOf, behind, NextStart}
 use Rattle.report.proofs.Covering.{used-by, free-of-all, used-some}
@@ -26,30 +27,31 @@ use Rattle.report.proofs.Widths.{width-at, width-none, width-some}
 pub none-yet : (p : ℕ) (xs : List ℕ) (x : ℕ) → NextStart p xs 0 x p
 none-yet p xs x = record { high = omega arith; start = λ l. absurd (omega arith); least = below-none _ }
 
-module _ (p : ℕ) (xs : List ℕ) (n x b : ℕ) (hx : x < p) (ha : at xs n < p) (w : NextStart p xs n x b) where
-  abbrev new : ℕ
-  new = second p (p - x) (at xs n)
-
-  -- so many slots on from x it is
-  there : at xs n ≡ (x + new) % p
+-- the start of row n turned back by x is a
+module _ (p : ℕ) (xs : List ℕ) (n x a b : ℕ) (hx : x < p) (hn : at xs n < p) (w : NextStart p xs n x b)
+    (e : a ≡ second p (p - x) (at xs n)) where
+  back : a ≡ (at xs n + (p - x)) % p
   unfolding second
-  there =
-      let e : x + (at xs n + (p - x)) ≡ at xs n + p = omega arith in
-      sym (add-mod-mod x (at xs n + (p - x)) p ∙ rw e (add-mod-right (at xs n) p ∙ mod-eq-of-lt ha))
+  back = e
 
-  pub one-more : NextStart p xs (n + 1) x (min new b)
+  there : at xs n ≡ (x + a) % p
+  there =
+      let d : x + (at xs n + (p - x)) ≡ at xs n + p = omega arith in
+      sym (rw back (add-mod-mod x (at xs n + (p - x)) p ∙ rw d (add-mod-right (at xs n) p ∙ mod-eq-of-lt hn)))
+
+  pub one-more : NextStart p xs (n + 1) x (min a b)
   one-more =
       record {
         high = omega (arith, w .high);
-        start = λ l. ⊎-elim (λ m. old (omega arith) (omega arith)) (λ m. this (omega arith)) (lt-or-ge b new);
-        least = below-more (λ i. min new b ≤ second p (p - x) (at xs i)) n (λ i l. omega (arith, w .least i l)) (omega arith);
+        start = λ l. ⊎-elim (λ m. old (omega arith) (omega arith)) (λ m. this (omega arith)) (lt-or-ge b a);
+        least = below-more (λ i. min a b ≤ (at xs i + (p - x)) % p) n (λ i l. omega (arith, w .least i l)) (omega (arith, back));
       }
     where
-      old : min new b ≡ b → b < p → (i : ℕ) × (i < n + 1) × (at xs i ≡ (x + min new b) % p)
-      old e l = let s = w .start l in rw e (s .0, omega (arith, s .1), s .2)
+      old : min a b ≡ b → b < p → (i : ℕ) × (i < n + 1) × (at xs i ≡ (x + min a b) % p)
+      old f l = let s = w .start l in rw f (s .0, omega (arith, s .1), s .2)
 
-      this : min new b ≡ new → (i : ℕ) × (i < n + 1) × (at xs i ≡ (x + min new b) % p)
-      this e = rw e (n, omega arith, there)
+      this : min a b ≡ a → (i : ℕ) × (i < n + 1) × (at xs i ≡ (x + min a b) % p)
+      this f = rw f (n, omega arith, there)
 
 module _ {p t : ℕ} {xs : List ℕ} (h : Placed p t xs) where
   abbrev q : ℕ → Bool
@@ -92,7 +94,6 @@ module _ {p t : ℕ} {xs : List ℕ} (h : Placed p t xs) where
   -- up to the next start from the slot x
   module _ {x r : ℕ} (hx : x < p) (w : NextStart p xs (length xs) x r) where
     no-start : (k : ℕ) → k < r → (j : ℕ) → j < length xs → at xs j ≡ (x + k) % p → ⊥
-    unfolding second
     no-start k l j m e =
         let i : x + k + (p - x) ≡ k + p = omega arith in
         let d : (x + k + (p - x)) % p ≡ k = rw i (add-mod-right k p ∙ mod-eq-of-lt (omega (arith, w .high))) in
@@ -118,12 +119,11 @@ module _ {p t : ℕ} {xs : List ℕ} (h : Placed p t xs) where
     end = endOf p t xs i
 
     pub end-low : end < p
-    unfolding second
-    end-low = mod-lt (at xs i + t) some
+    end-low = after-low p some t (at xs i)
 
     -- the slot before a message's end is its own
     before-end : (at xs i + (t - 1)) % p ≡ (end + (p - 1)) % p
-    unfolding second
+    unfolding after
     before-end =
         let e : at xs i + t + (p - 1) ≡ at xs i + (t - 1) + p = omega (arith, h .size-low, some) in
         sym (mod-add-mod (at xs i + t) p (p - 1) ∙ rw e (add-mod-right (at xs i + (t - 1)) p))
@@ -163,7 +163,7 @@ module _ {p t : ℕ} {xs : List ℕ} (h : Placed p t xs) where
 
   -- a message with the slot before s, and not s, ends there
   ends-at : (s : ℕ) → q s ≡ true → (i k : ℕ) → i < length xs → k < t → (at xs i + (k + 1)) % p ≡ s → endOf p t xs i ≡ s
-  unfolding second
+  unfolding after
   ends-at s e i k l m d =
       ⊎-elim (λ n. clash e (ap q (sym d) ∙ used-at i (k + 1) l n)) (λ n. let f : k + 1 ≡ t = omega arith in rw f at d) (lt-or-ge (k + 1) t)
 
@@ -180,7 +180,7 @@ module _ {p t : ℕ} {xs : List ℕ} (h : Placed p t xs) where
 
   -- no two messages end at one slot
   ends-apart : (i j : ℕ) → i < j → j < length xs → endOf p t xs i ≡ endOf p t xs j → ⊥
-  unfolding second
+  unfolding after
   ends-apart i j l m e =
       let d = same-on p (at xs i) (at xs j) 0 (same-back p (at xs i) (at xs j) t some e) in
       h .apart i j l m ((at xs i + 0) % p, (0, h .size-low, refl), (0, h .size-low, sym d))

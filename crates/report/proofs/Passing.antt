@@ -13,7 +13,9 @@ use borrow.Author.Tests.{lt-ltb, le-ltb}
 use Rattle.ground.specs.Count.{count}
 use Rattle.ground.proofs.Bools.{lt-or-ge}
 use Rattle.ground.proofs.Counting.{count-in, count-out, count-low}
+use Rattle.link.specs.Rows.{second}
 use Rattle.link.proofs.Circle.{uses-slot}
+use Rattle.link.proofs.Meeting.{second-after}
 use Rattle.report.specs.Runs.{width, Run, runs, widestOf}
 use Rattle.report.specs.Free.{stretchOf}
 use Rattle.report.specs.Steps.{Placed, at, freeAt, endOf, behind, NextStart}
@@ -54,9 +56,9 @@ module _ {p t : ℕ} {xs : List ℕ} (h : Placed p t xs) {i free k w : ℕ} (v :
         (omega (arith, v .left, used-up), omega (arith, v .number, used-up, h .size-low))
 
     -- r slots on from the message's end e is the next start
-    module _ {e r : ℕ} (a : e ≡ endOf p t xs i) (n : NextStart p xs (length xs) e r) where
+    module _ {e r : ℕ} (a : e ≡ second p t (at xs i)) (n : NextStart p xs (length xs) e r) where
       run : r ≡ behind p t xs i
-      run = behind-is h i l (rw a at n)
+      run = behind-is h i l (rw (a ∙ second-after p t (at xs i)) at n)
 
       -- nothing is free behind the message
       pub over-none : r ≡ 0 → Passed p t xs (i + 1) (free - t) k w

@@ -4,8 +4,7 @@ use mathlib.Core.Bool.{Bool}
 use mathlib.Core.List.{List}
 use Prim.Native.Nat.{ℕ, _+_, _-_, _%_, _≤_, _<_}
 use lib.ListN.{length, getD}
-use Rattle.link.specs.Rows.{second}
-use Rattle.link.specs.Slots.{Meet}
+use Rattle.link.specs.Slots.{after, Meet}
 use Rattle.report.specs.Free.{freeOf}
 use Rattle.report.specs.Runs.{width}
 
@@ -24,9 +23,9 @@ pub record Placed (p t : ℕ) (xs : List ℕ) : Type 0 where
 abbrev pub freeAt : ℕ → ℕ → List ℕ → ℕ → Bool
 freeAt p t xs = freeOf p t (at xs) (length xs)
 
--- the slot behind row i's message
+-- the slot right after row i's message
 abbrev pub endOf : ℕ → ℕ → List ℕ → ℕ → ℕ
-endOf p t xs i = second p t (at xs i)
+endOf p t xs i = after p t (at xs i)
 
 -- how many slots are free from there on
 unfoldable pub behind : ℕ → ℕ → List ℕ → ℕ → ℕ
@@ -36,4 +35,4 @@ behind p t xs i = width (freeAt p t xs) p (endOf p t xs i)
 pub record NextStart (p : ℕ) (xs : List ℕ) (n x r : ℕ) : Type 0 where
   pub high : r ≤ p
   pub start : r < p → (i : ℕ) × (i < n) × (at xs i ≡ (x + r) % p)
-  pub least : (i : ℕ) → i < n → r ≤ second p (p - x) (at xs i)
+  pub least : (i : ℕ) → i < n → r ≤ (at xs i + (p - x)) % p

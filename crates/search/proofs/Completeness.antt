@@ -10,12 +10,13 @@ use lib.Dec.{eqb}
 use lib.ListN.{length, getD}
 use borrow.Author.Tests.{lt-ltb, eq-eqb, eqb-true, eqb-false}
 use Rattle.link.specs.Rows.{Crossing, one, two, start, startAt, hits, either}
+use Rattle.link.specs.Slots.{after}
 use Rattle.ground.proofs.Bools.{clash}
 use Rattle.ground.proofs.Series.{look}
 use Rattle.link.proofs.Circle.{Apart, Turned}
 use Rattle.ground.proofs.Minimum.{some-none}
 use Rattle.link.proofs.Meeting.{start-low, neither}
-use Rattle.search.specs.Steps.{Step, step, placed, after, puts, inTheWay, good, put, steps, isStep}
+use Rattle.search.specs.Steps.{Step, step, placed, puts, inTheWay, good, put, steps, isStep}
 use Rattle.search.proofs.Listing.{steps-have}
 use Rattle.search.proofs.Moving.{apart-sym, apart-both, apart-one, start-back, offset-start, apart-met}
 use Rattle.search.proofs.Numbers.{names}

@@ -7,14 +7,14 @@ use mathlib.Core.List.{List}
 use Prim.Native.Nat.{ℕ, _<_, _≤_}
 use lib.ListN.{getD}
 use Rattle.ground.specs.Least.{some}
-use Rattle.link.specs.Slots.{Meet}
+use Rattle.link.specs.Slots.{after, Meet}
 use Rattle.link.specs.Rows.{Crossing, one, two, start, startAt, hits, either}
 use Rattle.ground.proofs.Bools.{clash, is-false}
-use Rattle.link.proofs.Circle.{meets-true, meets-slot}
+use Rattle.link.proofs.Circle.{after-low, meets-true, meets-slot}
 use Rattle.ground.proofs.Minimum.{some-none}
 use Rattle.link.proofs.Meeting.{neither}
-use Rattle.search.specs.Steps.{Step, placed, after, offsetOf, puts, inTheWay, good}
-use Rattle.search.proofs.Moving.{offset-start, start-offset, after-low}
+use Rattle.search.specs.Steps.{Step, placed, offsetOf, puts, inTheWay, good}
+use Rattle.search.proofs.Moving.{offset-start, start-offset}
 use Rattle.search.proofs.Soundness.{not-met}
 
 module _ (p l : ℕ) (ds s : List ℕ) (k : Step) (some-period : 0 < p) where

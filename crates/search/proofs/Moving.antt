@@ -6,12 +6,12 @@ use Prim.Native.Nat.{ℕ, suc, _+_, _-_, _%_, _<_, _≤_}
 use native.Mathlib.Omega.{arith}
 use native.Mathlib.Nat.{mod-lt, mod-eq-of-lt, suc-mod}
 use borrow.Author.Tests.{not-false}
-use Rattle.link.specs.Slots.{meets, Meet, apartb}
+use Rattle.link.specs.Slots.{after, meets, apartb, Meet}
 use Rattle.link.specs.Rows.{Crossing, one, two, second, startAt}
 use Rattle.ground.proofs.Bools.{clash, is-false}
 use Rattle.ground.proofs.Remainders.{there-and-back, back-and-there}
 use Rattle.link.proofs.Circle.{Apart, Turned, turned, apart-parts, apart-true, meets-apart, meets-true, meets-slot}
-use Rattle.search.specs.Steps.{after, offsetOf}
+use Rattle.search.specs.Steps.{offsetOf}
 
 pub apart-sym : (p l a b : ℕ) → Apart p l a b → Apart p l b a
 apart-sym p l a b w = omega arith
@@ -61,10 +61,6 @@ module _ (p : ℕ) (some : 0 < p) where
   unfolding offsetOf
   offset-low one d x h = h
   offset-low two d x h = mod-lt (x + (p - d % p)) some
-
-  pub after-low : (l x : ℕ) → after p l x < p
-  unfolding after
-  after-low l x = mod-lt (x + l) some
 
 -- two starts have no slot in common exactly where they are apart
 module _ (p l a b : ℕ) (ha : a < p) (hb : b < p) (hl : l ≤ p) where

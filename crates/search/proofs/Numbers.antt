@@ -13,10 +13,11 @@ use native.Mathlib.Nat.{mod-eq-of-lt}
 use borrow.Author.Tests.{lt-ltb, le-ltb, ltb-true, ltb-false, not-true}
 use Rattle.link.specs.Limits.{maxRows}
 use Rattle.link.specs.Rows.{one, two, second, start}
+use Rattle.link.specs.Slots.{after}
 use Rattle.ground.specs.Series.{from}
 use Rattle.ground.proofs.Bools.{lt-or-ge, and-parts}
 use Rattle.ground.proofs.Series.{from-cong, from-nothing, from-append, from-shift, from-blocks}
-use Rattle.search.specs.Steps.{Step, step, placed, besides, rowSteps, steps, puts, offsetOf, after, isStep}
+use Rattle.search.specs.Steps.{Step, step, placed, besides, rowSteps, steps, puts, offsetOf, isStep}
 use Rattle.search.specs.Numbering.{stepAt, Next}
 
 module _ (p n : ℕ) (s : List ℕ) (k : ℕ) where

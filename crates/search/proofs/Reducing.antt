@@ -11,8 +11,9 @@ use lib.Seq.{getD-set-same, getD-set-other}
 use Rattle.link.specs.Limits.{maxRows}
 use Rattle.ground.specs.Least.{some}
 use Rattle.link.specs.Rows.{Crossing, one, two, second, start, startAt, hits, either}
+use Rattle.link.specs.Slots.{after}
 use Rattle.ground.proofs.Bools.{lt-or-ge}
-use Rattle.search.specs.Steps.{Step, Rules, rules, after, offsetOf, puts, inTheWay, good, put, steps}
+use Rattle.search.specs.Steps.{Step, Rules, rules, offsetOf, puts, inTheWay, good, put, steps}
 
 -- ts has the first i delays within the period, and 0 behind them
 pub record Reduced (p : ℕ) (ds : List ℕ) (i : ℕ) (ts : List ℕ) : Type 0 where

@@ -11,9 +11,10 @@ use borrow.Author.Tests.{lt-ltb, le-ltb, ltb-true}
 use Rattle.ground.specs.Count.{count}
 use Rattle.ground.proofs.Counting.{count-run, count-less, count-front}
 use Rattle.link.specs.Limits.{maxRows}
+use Rattle.link.proofs.Circle.{after-low}
 use Rattle.search.specs.Steps.{Step, placed, puts, put, isStep}
 use Rattle.search.specs.Builds.{begin}
-use Rattle.search.proofs.Moving.{offset-low, after-low}
+use Rattle.search.proofs.Moving.{offset-low}
 use Rattle.search.proofs.Numbers.{names}
 
 -- u of the n rows are not placed

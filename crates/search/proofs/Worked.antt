@@ -11,12 +11,12 @@ use Rattle.ground.specs.Judging.{first, outside, andThen}
 use Rattle.ground.specs.Least.{oneMore, least}
 use Rattle.ground.specs.Lent.{onFront}
 use Rattle.ground.specs.Series.{from}
-use Rattle.link.specs.Slots.{uses, meets}
+use Rattle.link.specs.Slots.{uses, after, meets}
 use Rattle.link.specs.Rows.{second, start, hits, either}
 use Rattle.link.specs.Refusal.{linkFaults, rowFaults, roomFaults}
 use Rattle.link.specs.declared.Link.{Link}
 use Rattle.search.specs.Refusal.{exactFaults}
-use Rattle.search.specs.Steps.{placed, besides, rowSteps, steps, after, offsetOf, puts, inTheWay, good, put}
+use Rattle.search.specs.Steps.{placed, besides, rowSteps, steps, offsetOf, puts, inTheWay, good, put}
 use Rattle.search.specs.Builds.{order, orderSteps, behind, sequences, leads, allGood, isWhole, firstOf, counted, leastBuild}
 use Rattle.search.specs.Builds.{sequencesOf, LeastWholeOf}
 use Rattle.search.specs.Ceilings.{product, products, choices, ceilingOf, ceilingUpTo}

@@ -7,6 +7,7 @@ use lib.ListN.{getD, set}
 use Rattle.ground.specs.Least.{some}
 use Rattle.ground.specs.Series.{from}
 use Rattle.link.specs.Rows.{Crossing, one, two, start, hits, either}
+use Rattle.link.specs.Slots.{after}
 
 -- "A step names a row j not yet placed, a placed row i, and a crossing (1 or 2)."
 pub record Step : Type 0 where
@@ -33,10 +34,6 @@ rowSteps p n s j = cond (placed p s j) [] (from (besides p s j) 0 n)
 
 unfoldable pub steps : ℕ → ℕ → List ℕ → List Step
 steps p n s = from (rowSteps p n s) 0 n
-
--- the slot right after the last of the l slots from x
-unfoldable pub after : ℕ → ℕ → ℕ → ℕ
-after p l x = (x + l) % p
 
 -- the offset of a row of delay d that starts at x in the crossing
 unfoldable pub offsetOf : ℕ → Crossing → ℕ → ℕ → ℕ

@@ -7,7 +7,7 @@ use Rattle.ground.specs.Least.{oneMore, least}
 use Rattle.ground.specs.Series.{from}
 use Rattle.link.specs.Refusal.{linkFaults, rowFaults, roomFaults, offsetFaults}
 use Rattle.link.specs.Rows.{second, start, hits, either, free, firstHit, metAt}
-use Rattle.link.specs.Slots.{uses, meets}
+use Rattle.link.specs.Slots.{uses, after, meets}
 use Rattle.checker.specs.Answer as checker
 use Rattle.checker.specs.Judging.{clearFaults}
 use Rattle.quick.specs.Answer as quick
@@ -33,7 +33,7 @@ unfolding table
     search.within search.outcome search.exactly
     builds.order builds.orderSteps builds.behind builds.sequences builds.leads builds.allGood builds.isWhole builds.firstOf
     builds.counted builds.leastBuild
-    steps.placed steps.besides steps.rowSteps steps.steps steps.after steps.offsetOf steps.puts steps.inTheWay
+    steps.placed steps.besides steps.rowSteps steps.steps after steps.offsetOf steps.puts steps.inTheWay
     steps.good steps.put
     report.told report.answer slots.usedOf slots.freeOf slots.stretchOf
     runs.runBegins runs.width runs.runsBelow runs.widestOf

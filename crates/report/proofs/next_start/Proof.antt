@@ -43,8 +43,8 @@ loop-again : tie.Need-loop-again Inv-loop μ-loop
 loop-again c =
     let l = c .before .before .before .before in
     let pre = l .before .before .pre in
-    rw (c .nearer .ensures, c .before .turn .ensures .0)
-    (omega arith, one-more _ _ _ _ _ (pre .0) (pre .1 _ (omega arith)) (l .loop .inv .1))
+    rw (c .nearer .ensures)
+    (omega arith, one-more _ _ _ _ _ _ (pre .0) (pre .1 _ (omega arith)) (l .loop .inv .1) (c .before .turn .ensures .0))
 
 returns : tie.Need-returns Inv-loop μ-loop
 returns c =
