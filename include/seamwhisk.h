@@ -262,7 +262,7 @@ void seamwhisk_read_plan(const uint8_t *file, size_t length, uint32_t *delays, s
  * slot P-1 is followed by slot 0: free slots at the end and at the start are one stretch.
  * Judges 5, 6, 8, 7 (least row), 11 if count is not rows, 17 (least row), 18.
  * Otherwise number is 0 and the six fields are filled; free_1 and free_2 are both P - rows * T. All
- * offsets moved on by the same number of slots, modulo P, give the same answer. */
+ * offsets moved on by the same number of slots, modulo P, give the same six. */
 void seamwhisk_report(uint32_t period, uint32_t size, const uint32_t *delays, size_t rows,
                       const uint32_t *offsets, size_t count, seamwhisk_reported *answer);
 

@@ -1,6 +1,6 @@
 //! Brute force: every rule once more, by listing everything and taking the least.
 //!
-//! Nothing here is fast. It is used by the self-test only, on small cases.
+//! Nothing here is fast but `stretches_between`. It is used by the self-test only, on small cases.
 
 use crate::link::{Refusal, Table};
 use crate::planfile;

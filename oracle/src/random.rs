@@ -7,7 +7,8 @@ impl Random {
         Random(seed)
     }
 
-    /// A generator of its own, which takes no number from this one.
+    /// A generator of its own, which takes no number from this one: what is drawn next from this one
+    /// is the same with and without it.
     pub fn branch(&self) -> Random {
         Random(Random(self.0).next())
     }

@@ -99,7 +99,7 @@ module _ (k : Link) (ds os : List ℕ) where
       front-hit (planFaults k ds os) _ n q
       (refusal-told (k .period) (spanOf k) ds os (first (planFaults k ds os)) n q (naming (k .period) (spanOf k) ds os) e)
 
--- with no fault of the values
+-- of a plan in range only the rows are left to judge
 judged-rows : (k : Link) (ds os : List ℕ) → GoodPlan k ds os
     → first (atRow (blocked (k .period) (spanOf k) ds os) (length ds) notClear ∷ []) ≡ first (clearFaults k ds os)
 unfolding clearFaults

@@ -12,11 +12,14 @@ module _ (p : ℕ) (some : 0 < p) (d x : ℕ) where
       ap (λ (y : ℕ). (y + (p - d % p)) % p) (sym (add-mod-mod x d p)) ∙ mod-add-mod (x + d % p) p (p - d % p) ∙ ap (λ (y : ℕ). y % p) e
       ∙ add-mod-right x p
 
-  pub back-and-there : ((x + (p - d % p)) % p + d) % p ≡ x % p
-  back-and-there =
+  pub back-and-on : (x + (p - d % p) + d) % p ≡ x % p
+  back-and-on =
       let l = mod-lt d some in
       let e : x + (p - d % p) + d % p ≡ x + p = omega arith in
-      mod-add-mod (x + (p - d % p)) p d ∙ sym (add-mod-mod (x + (p - d % p)) d p) ∙ ap (λ (y : ℕ). y % p) e ∙ add-mod-right x p
+      sym (add-mod-mod (x + (p - d % p)) d p) ∙ ap (λ (y : ℕ). y % p) e ∙ add-mod-right x p
+
+  pub back-and-there : ((x + (p - d % p)) % p + d) % p ≡ x % p
+  back-and-there = mod-add-mod (x + (p - d % p)) p d ∙ back-and-on
 
 -- two that are the same place on the circle are so d further on, and were so d before
 pub same-on : (p x y d : ℕ) → x % p ≡ y % p → (x + d) % p ≡ (y + d) % p

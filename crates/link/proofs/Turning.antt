@@ -5,34 +5,37 @@ use mathlib.Core.Bool.{not}
 use mathlib.Core.List.{List}
 use Prim.Native.Nat.{ℕ, _+_, _-_, _%_, _<_}
 use native.Mathlib.Omega.{arith}
-use native.Mathlib.Nat.{mod-lt, mod-mod, mod-add-mod}
+use native.Mathlib.Nat.{mod-mod, mod-add-mod}
 use lib.Dec.{ltb}
 use lib.ListN.{length, getD, length-map}
 use Rattle.ground.proofs.Bools.{same-test}
 use Rattle.ground.proofs.Elements.{getD-mapped}
 use Rattle.ground.proofs.Minimum.{least-cong}
-use Rattle.ground.proofs.Remainders.{same-on, same-back, back-and-there}
-use Rattle.link.specs.Slots.{uses, meets, Uses, Meet}
+use Rattle.ground.proofs.Remainders.{same-on, same-back, back-and-on}
+use Rattle.link.specs.Slots.{uses, after, meets, Uses, Meet}
 use Rattle.link.specs.Rows.{Crossing, one, two, second, startAt, start, movedOn, hits, either, free}
 use Rattle.link.specs.Range.{GoodPlan}
 use Rattle.link.specs.declared.Link.{Link}
-use Rattle.link.proofs.Circle.{uses-true, uses-slot, meets-true, meets-slot}
+use Rattle.link.proofs.Circle.{after-low, uses-true, uses-slot, meets-true, meets-slot}
 
 module _ (p r : ℕ) (some : 0 < p) where
-  -- the slot r slots on from a
-  abbrev pub on : ℕ → ℕ
-  on a = (a + r) % p
+  -- r slots on from a
+  abbrev on : ℕ → ℕ
+  on = after p r
 
   -- r slots on and then k, or k and then r
-  first-on : (a k : ℕ) → (on a + k) % p ≡ (a + k + r) % p
+  first-on : (a k : ℕ) → (on a + k) % p ≡ on (a + k)
+  unfolding after
   first-on a k = let e : a + r + k ≡ a + k + r = omega arith in mod-add-mod (a + r) p k ∙ ap (λ (x : ℕ). x % p) e
 
   -- the slot that is y slots on from slot 0
   module _ (l a y : ℕ) where
     uses-on : Uses p l a (y % p) → Uses p l (on a) (on y)
+    unfolding after
     uses-on u = (u .0, u .1, first-on a (u .0) ∙ same-on p (a + u .0) y r (u .2))
 
     uses-back : Uses p l (on a) (on y) → Uses p l a (y % p)
+    unfolding after
     uses-back u = (u .0, u .1, same-back p (a + u .0) y r some (sym (first-on a (u .0)) ∙ u .2))
 
     pub uses-moved : uses p l (on a) (on y) ≡ uses p l a (y % p)
@@ -47,27 +50,24 @@ module _ (p r : ℕ) (some : 0 < p) where
         low : (x : ℕ) → Uses p l x (m .0) → Uses p l x (m .0 % p)
         low x u = (u .0, u .1, sym (mod-mod (x + u .0) p) ∙ ap (λ (s : ℕ). s % p) (u .2))
 
+    -- the slot s is r slots on from the one r slots before it
+    at-back : (s x : ℕ) → Uses p l (on x) s → Uses p l (on x) (on (s + (p - r % p)))
+    unfolding after
+    at-back s x u =
+        (u .0, u .1, sym (mod-mod (on x + u .0) p) ∙ ap (λ (z : ℕ). z % p) (u .2) ∙ sym (back-and-on p some r s))
+
     meet-back : Meet p l (on a) (on b) → Meet p l a b
-    meet-back m = (y % p, uses-back l a y (at a (m .1)), uses-back l b y (at b (m .2)))
-      where
-        y : ℕ
-        y = m .0 + (p - r % p)
+    meet-back m =
+        let y = m .0 + (p - r % p) in
+        (y % p, uses-back l a y (at-back (m .0) a (m .1)), uses-back l b y (at-back (m .0) b (m .2)))
 
-        at : (x : ℕ) → Uses p l (on x) (m .0) → Uses p l (on x) (on y)
-        at x u = (
-          u .0,
-          u .1,
-          sym (mod-mod (on x + u .0) p) ∙ ap (λ (s : ℕ). s % p) (u .2)
-              ∙ sym (sym (mod-add-mod (m .0 + (p - r % p)) p r) ∙ back-and-there p some r (m .0)),
-        )
-
-    pub meets-moved : meets p l (on a) (on b) ≡ meets p l a b
+    meets-moved : meets p l (on a) (on b) ≡ meets p l a b
     meets-moved =
         same-test _ _ (λ e. meets-true p l a b some (meet-back (meets-slot p l (on a) (on b) e)))
         (λ e. meets-true p l (on a) (on b) some (meet-on (meets-slot p l a b e)))
 
   start-on : (c : Crossing) (d a : ℕ) → startAt p c d (on a) ≡ on (startAt p c d a)
-  unfolding second
+  unfolding second after
   start-on one d a = refl
   start-on two d a = first-on a d ∙ sym (mod-add-mod (a + d) p r)
 
@@ -95,12 +95,12 @@ module _ (p r : ℕ) (some : 0 < p) where
 -- a plan in range is so however it is turned
 pub good-moved : (k : Link) (ds os : List ℕ) (r : ℕ) → GoodPlan k ds os → GoodPlan k ds (movedOn (k .period) r os)
 good-moved k ds os r g =
-    let n = length-map os (λ a. (a + r) % k .period) in
+    let n = length-map os (after (k .period) r) in
     record {
       table = g .table;
       as-many = n ∙ g .as-many;
       offsets = λ i l.
-          let e = getD-mapped (λ a. (a + r) % k .period) os 0 0 i (omega arith) in
-          let low = mod-lt (getD os i 0 + r) (g .table .period-low) in
+          let e = getD-mapped (after (k .period) r) os 0 0 i (omega arith) in
+          let low = after-low (k .period) (g .table .period-low) r (getD os i 0) in
           omega (arith, e);
     }

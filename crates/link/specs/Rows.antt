@@ -4,7 +4,7 @@ use mathlib.Core.List.{List, map}
 use Prim.Native.Nat.{ℕ, _+_, _%_, _<_}
 use lib.ListN.{length, getD}
 use Rattle.ground.specs.Least.{least, some}
-use Rattle.link.specs.Slots.{meets, apartb, Meet}
+use Rattle.link.specs.Slots.{after, meets, apartb, Meet}
 use Rattle.link.specs.declared.Link.{Link}
 use Rattle.link.specs.declared.Met.{Met}
 use Rattle.link.specs.declared.Met.the-variants.{Nobody, Row}
@@ -35,7 +35,7 @@ start p ds os c i = startAt p c (getD ds i 0) (getD os i 0)
 
 -- the circle turned: all offsets moved on by r slots, modulo P
 abbrev pub movedOn : ℕ → ℕ → List ℕ → List ℕ
-movedOn p r os = map (λ a. (a + r) % p) os
+movedOn p r os = map (after p r) os
 
 -- no two rows meet in the crossing c
 pub record ClearIn (p l : ℕ) (ds os : List ℕ) (c : Crossing) : Type 0 where

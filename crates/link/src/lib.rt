@@ -35,7 +35,7 @@ pub fn second_start(period: u32, delay: u32, offset: u32) -> u32
     (sum % (period as u64)) as u32
 }
 
-// The start `by` slots after `at`, round the period: a second start with no division.
+// The slot `by` slots after `at`, round the period, with no division.
 pub fn turn(period: u32, at: u32, by: u32) -> u32
     requires { ⌜ (at < period) × (by ≤ period) ⌝ }
     ensures { λ r. ⌜ (r ≡ second period by at) × (r < period) ⌝ }

@@ -3,55 +3,31 @@ use mathlib.Core.Path.{_≡_, refl, sym, _∙_, ap}
 use mathlib.Core.Bool.{Bool, true, false}
 use mathlib.Core.Logic.{⊎-elim}
 use mathlib.Core.List.{List}
-use Prim.Native.Nat.{ℕ, zero, suc, _+_, _-_, _%_, _≤_, _<_, min}
+use Prim.Native.Nat.{ℕ, zero, suc, _+_, _-_, _%_, _<_}
 use native.Mathlib.Omega.{arith}
-use native.Mathlib.Nat.{mod-eq-of-lt, mod-add-mod, add-mod-mod, add-mod-right, add-comm}
+use native.Mathlib.Nat.{mod-eq-of-lt, mod-add-mod, add-mod-right, add-comm}
 use lib.Dec.{ltb}
 use lib.ListN.{length}
-use borrow.Author.Count.{below-none, below-more}
 use borrow.Author.Tests.{lt-ltb, le-ltb}
 use Rattle.ground.specs.Count.{count}
 use Rattle.ground.proofs.Bools.{clash, lt-or-ge, true-or-false}
 use Rattle.ground.proofs.Counting.{count-cong, count-places}
 use Rattle.ground.proofs.Remainders.{same-on, same-back}
-use Rattle.link.specs.Rows.{second}
 use Rattle.link.specs.Slots.{after, Uses}
 use Rattle.link.proofs.Circle.{after-low}
 use Rattle.report.specs.Runs.{around, runBegins, width}
-use Rattle.report.specs.Steps.{Placed, at, freeAt, endOf, behind, NextStart}
+use Rattle.report.specs.Steps.{Placed, at, freeAt, NextStart}
 use Rattle.report.proofs.Covering.{used-by, free-of-all, used-some}
 use Rattle.report.proofs.Widths.{around-again, around-low, begins-here, begins-has, begins-not}
 use Rattle.report.proofs.Widths.{width-at, width-none, width-some}
 
--- the next of the first n starts, and of one more
-pub none-yet : (p : ℕ) (xs : List ℕ) (x : ℕ) → NextStart p xs 0 x p
-none-yet p xs x = record { high = omega arith; start = λ l. absurd (omega arith); least = below-none _ }
+-- the slot right after row i's message
+abbrev pub endOf : ℕ → ℕ → List ℕ → ℕ → ℕ
+endOf p t xs i = after p t (at xs i)
 
--- the start of row n turned back by x is a
-module _ (p : ℕ) (xs : List ℕ) (n x a b : ℕ) (hx : x < p) (hn : at xs n < p) (w : NextStart p xs n x b)
-    (e : a ≡ second p (p - x) (at xs n)) where
-  back : a ≡ (at xs n + (p - x)) % p
-  unfolding second
-  back = e
-
-  there : at xs n ≡ (x + a) % p
-  there =
-      let d : x + (at xs n + (p - x)) ≡ at xs n + p = omega arith in
-      sym (rw back (add-mod-mod x (at xs n + (p - x)) p ∙ rw d (add-mod-right (at xs n) p ∙ mod-eq-of-lt hn)))
-
-  pub one-more : NextStart p xs (n + 1) x (min a b)
-  one-more =
-      record {
-        high = omega (arith, w .high);
-        start = λ l. ⊎-elim (λ m. old (omega arith) (omega arith)) (λ m. this (omega arith)) (lt-or-ge b a);
-        least = below-more (λ i. min a b ≤ (at xs i + (p - x)) % p) n (λ i l. omega (arith, w .least i l)) (omega (arith, back));
-      }
-    where
-      old : min a b ≡ b → b < p → (i : ℕ) × (i < n + 1) × (at xs i ≡ (x + min a b) % p)
-      old f l = let s = w .start l in rw f (s .0, omega (arith, s .1), s .2)
-
-      this : min a b ≡ a → (i : ℕ) × (i < n + 1) × (at xs i ≡ (x + min a b) % p)
-      this f = rw f (n, omega arith, there)
+-- how many slots are free from there on
+unfoldable pub behind : ℕ → ℕ → List ℕ → ℕ → ℕ
+behind p t xs i = width (freeAt p t xs) p (endOf p t xs i)
 
 module _ {p t : ℕ} {xs : List ℕ} (h : Placed p t xs) where
   abbrev q : ℕ → Bool
@@ -92,20 +68,14 @@ module _ {p t : ℕ} {xs : List ℕ} (h : Placed p t xs) where
           g j k l m (same-back p (at xs j + k) y 1 some (rw (i, o) at e))
 
   -- up to the next start from the slot x
-  module _ {x r : ℕ} (hx : x < p) (w : NextStart p xs (length xs) x r) where
-    no-start : (k : ℕ) → k < r → (j : ℕ) → j < length xs → at xs j ≡ (x + k) % p → ⊥
-    no-start k l j m e =
-        let i : x + k + (p - x) ≡ k + p = omega arith in
-        let d : (x + k + (p - x)) % p ≡ k = rw i (add-mod-right k p ∙ mod-eq-of-lt (omega (arith, w .high))) in
-        omega (arith, w .least j m, ap (λ (z : ℕ). (z + (p - x)) % p) e ∙ mod-add-mod (x + k) p (p - x) ∙ d)
-
+  module _ {x r : ℕ} (w : NextStart p xs (length xs) x r) where
     free-on : free x ≡ true → (k : ℕ) → k < r → free (x + k) ≡ true
     free-on e zero l = let i : x + 0 ≡ x = omega arith in rw i e
     free-on e (suc k) l =
         let i : x + suc k ≡ suc (x + k) = omega arith in
         let before = free-on e k (omega arith) in
         rw i
-        (free-next (x + k) (λ j m s. no-start (suc k) l j m (rw i s))
+        (free-next (x + k) (λ j m s. w .before (suc k) l j m (rw i s))
         (λ j n m b s. clash before (ap q (sym s) ∙ used-at j n m (omega arith))))
 
     pub width-is : (0 < r → free x ≡ true) → width q p x ≡ r
@@ -138,7 +108,7 @@ module _ {p t : ℕ} {xs : List ℕ} (h : Placed p t xs) where
 
     pub behind-is : {r : ℕ} → NextStart p xs (length xs) end r → r ≡ behind p t xs i
     unfolding behind
-    behind-is {r} w = sym (width-is end-low w free-end)
+    behind-is {r} w = sym (width-is w free-end)
       where
         free-end : 0 < r → free end ≡ true
         free-end some-run =
@@ -146,7 +116,7 @@ module _ {p t : ℕ} {xs : List ℕ} (h : Placed p t xs) where
             let o : end + 0 ≡ end = omega arith in
             let f : suc (end + (p - 1)) % p ≡ (end + 0) % p = rw (e, o) (add-mod-right end p) in
             sym (around-again q p end)
-            ∙ rw e at (free-next (end + (p - 1)) (λ j m s. no-start end-low w 0 some-run j m (s ∙ f))
+            ∙ rw e at (free-next (end + (p - 1)) (λ j m s. w .before 0 some-run j m (s ∙ f))
             (λ j k m b s. not-on j k m b s (same-row i j _ l m (t - 1, omega (arith, h .size-low), before-end) (k, omega arith, s))))
           where
             not-on : (j k : ℕ) → j < length xs → suc k < t → (at xs j + k) % p ≡ (end + (p - 1)) % p → i ≡ j → ⊥

@@ -18,7 +18,7 @@ abbrev pub Covers : ℕ → ℕ → ℕ → ℕ → Type 0
 Covers p t a s = ((a ≤ s) × (s < a + t)) ⊎ (s + p < a + t)
 
 module _ (p t a s : ℕ) (ha : a < p) (ht : t ≤ p) (hs : s < p) where
-  pub covers : Uses p t a s → Covers p t a s
+  covers : Uses p t a s → Covers p t a s
   covers u = go (u .0) (u .1) (rw (u .2) at (turned p (a + u .0) (omega arith)))
     where
       go : (k : ℕ) → k < t → Turned p (a + k) s → Covers p t a s

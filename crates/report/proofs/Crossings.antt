@@ -1,4 +1,4 @@
--- The starts that the code hands to the walk are those of the plan's crossings. Assumes nothing.
+-- The starts that the code hands to `crossing` are those of the plan's crossings. Assumes nothing.
 use mathlib.Core.Path.{_≡_, refl, _∙_, ap, ap₂, fun-ext}
 use mathlib.Core.Bool.{Bool, not}
 use mathlib.Core.List.{List}
@@ -78,7 +78,7 @@ module _ {p t : ℕ} {ds os ss : List ℕ} {j : ℕ} (r : InRange p t ds os) (w 
         each = λ i q. getD-take j ss i 0 (omega arith) ∙ w .each i (omega arith);
       }
 
--- the numbers of a walk are the crossing's, and those of both walks are the answer
+-- the numbers of a call are the crossing's, and those of both calls are the answer
 module _ {p : ℕ} (t : ℕ) {ds os : List ℕ} where
   of-crossing : {c : Crossing} {xs : List ℕ} {a : Stretch} → StartsOf p ds os c xs →
       a ≡ stretchOf (freeAt p t xs) p → a ≡ stretchOf (isFree p t ds os c) p

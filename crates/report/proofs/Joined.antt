@@ -8,7 +8,7 @@ use native.Mathlib.Nat.{mod-self, mod-eq-of-lt, add-mod-right}
 use Rattle.ground.specs.Count.{count}
 use Rattle.ground.proofs.Counting.{count-front, count-cong}
 use Rattle.link.proofs.Circle.{Turned, turned}
-use Rattle.report.specs.Runs.{around, runBegins, width, beginsOnLine, Run, Within, Longest}
+use Rattle.report.specs.Runs.{around, runBegins, width, runBeginsOnLine, Run, Within, Longest}
 use Rattle.report.proofs.Widths.{around-again, around-low, width-at, width-some}
 use Rattle.report.proofs.Stretches.{short}
 
@@ -57,7 +57,7 @@ module _ (q : ℕ → Bool) where
         (p - r .first, omega (arith, both-parts), rw d (mod-self p))
 
   -- behind slot 0 a run begins on the circle where it begins on the line
-  later : (m i : ℕ) → i < m → runBegins q (suc m) (suc i) ≡ beginsOnLine q (suc i)
+  later : (m i : ℕ) → i < m → runBegins q (suc m) (suc i) ≡ runBeginsOnLine q (suc i)
   unfolding runBegins
   later m i l =
       let e : suc i + (suc m - 1) ≡ i + suc m = omega arith in
@@ -74,11 +74,11 @@ module _ (q : ℕ → Bool) where
       rw (e, here, before)
 
   -- so there is one less on the circle where the first slot and the last have the test
-  pub one-less : (p : ℕ) → 0 < p → count (runBegins q p) p + cond (q 0 && q (p - 1)) 1 0 ≡ count (beginsOnLine q) p
+  pub one-less : (p : ℕ) → 0 < p → count (runBegins q p) p + cond (q 0 && q (p - 1)) 1 0 ≡ count (runBeginsOnLine q) p
   one-less zero h = absurd (omega arith)
   one-less (suc m) h =
       let e : suc m - 1 ≡ m = omega arith in
       let circle = count-front (runBegins q (suc m)) m in
-      let line = count-front (beginsOnLine q) m in
-      let same = count-cong (λ i. runBegins q (suc m) (suc i)) (λ i. beginsOnLine q (suc i)) m (later m) in
+      let line = count-front (runBeginsOnLine q) m in
+      let same = count-cong (λ i. runBegins q (suc m) (suc i)) (λ i. runBeginsOnLine q (suc i)) m (later m) in
       omega (arith, circle, line, same, ap one-if (at-0 m), split (q 0) (q m), ap (λ (i : ℕ). one-if (q 0 && q i)) e)

@@ -18,11 +18,11 @@ use Rattle.link.proofs.Circle.{uses-slot}
 use Rattle.link.proofs.Meeting.{second-after}
 use Rattle.report.specs.Runs.{width, Run, runs, widestOf}
 use Rattle.report.specs.Free.{stretchOf}
-use Rattle.report.specs.Steps.{Placed, at, freeAt, endOf, behind, NextStart}
+use Rattle.report.specs.Steps.{Placed, at, freeAt, NextStart}
 use Rattle.report.proofs.Widths.{runs-number}
 use Rattle.report.proofs.Stretches.{member-from, has-from, none-wider, widest-upto}
 use Rattle.report.proofs.Total.{count-free}
-use Rattle.report.proofs.Behind.{end-low, behind-is, begins-behind, ends-here, stretches-behind}
+use Rattle.report.proofs.Behind.{endOf, behind, end-low, behind-is, begins-behind, ends-here, stretches-behind}
 
 -- the numbers are those of what lies behind the first i messages
 pub record Passed (p t : ℕ) (xs : List ℕ) (i free stretches widest : ℕ) : Type 0 where
@@ -41,19 +41,19 @@ setting-out p t xs =
 less : (p t i free : ℕ) → free + i * t ≡ p → t ≤ free → free - t + (i + 1) * t ≡ p
 less p t i free e l = let d : (i + 1) * t ≡ i * t + t = rw (add-one i) (suc-mul i t) in omega arith
 
-module _ {p t : ℕ} {xs : List ℕ} (h : Placed p t xs) {i free k w : ℕ} (v : Passed p t xs i free k w) where
-  used-up : count (freeAt p t xs) p + length xs * t ≡ p
-  used-up =
-      count-free p t (at xs) (length xs) (h .size-high) (h .low)
-      (λ a b s l m u z. h .apart a b l m (s, uses-slot p t (at xs a) s u, uses-slot p t (at xs b) s z))
+used-up : {p t : ℕ} {xs : List ℕ} → Placed p t xs → count (freeAt p t xs) p + length xs * t ≡ p
+used-up {p} {t} {xs} h =
+    count-free p t (at xs) (length xs) (h .size-high) (h .low)
+    (λ a b s l m u z. h .apart a b l m (s, uses-slot p t (at xs a) s u, uses-slot p t (at xs b) s z))
 
+module _ {p t : ℕ} {xs : List ℕ} (h : Placed p t xs) {i free k w : ℕ} (v : Passed p t xs i free k w) where
   module _ (l : i < length xs) where
     pub fits : (t ≤ free) × (k < p)
     fits =
         let m = rw (suc-mul i t) at (mul-le-mul-right t l) in
         let some = count-low (λ j. ltb 0 (behind p t xs j)) i in
         let each = mul-le-mul-left i (h .size-low) in
-        (omega (arith, v .left, used-up), omega (arith, v .number, used-up, h .size-low))
+        (omega (arith, v .left, used-up h), omega (arith, v .number, used-up h, h .size-low))
 
     -- r slots on from the message's end e is the next start
     module _ {e r : ℕ} (a : e ≡ second p t (at xs i)) (n : NextStart p xs (length xs) e r) where
@@ -117,6 +117,6 @@ module _ {p t : ℕ} {xs : List ℕ} (h : Placed p t xs) {i free k w : ℕ} (v :
     pub arrived : record { free = free; stretches = k; widest = w } ≡ stretchOf (freeAt p t xs) p
     unfolding stretchOf
     arrived =
-        let f : free ≡ count (freeAt p t xs) p = omega (arith, v .left, used-up, ap (λ (x : ℕ). x * t) all) in
+        let f : free ≡ count (freeAt p t xs) p = omega (arith, v .left, used-up h, ap (λ (x : ℕ). x * t) all) in
         let g : w ≡ widestOf (runs (freeAt p t xs) p) = omega (arith, not-above, not-below) in
         rw (f, v .number, all, ← stretches-behind h, ← runs-number (freeAt p t xs) p p, g)

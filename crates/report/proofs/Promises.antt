@@ -23,17 +23,19 @@ use Rattle.checker.specs.Order.{FirstCollision}
 use Rattle.checker.proofs.Judging.{clear-fine, fine-clear, unclear, judged-moved}
 use Rattle.ground.specs.Count.{count}
 use Rattle.ground.proofs.Counting.{count-not, count-some}
-use Rattle.report.specs.Runs.{runBegins, width, beginsOnLine, Run, Within, Longest, runs, totalOf}
+use Rattle.report.specs.Runs.{runBegins, width, runBeginsOnLine, AllFrom, Run, Within, Longest, runs, widestOf, totalOf}
 use Rattle.report.specs.Free.{isFree, stretchOf}
 use Rattle.report.specs.Answer.{Verdict, reported, refused as refusedly, Said, noStretch, telling, refusing, said, told, answer}
 use Rattle.report.specs.declared.Stretch.{Stretch}
 use Rattle.report.specs.declared.Reported.{Reported}
 use Rattle.report.specs.declared.Reported.the-variants.{Stretches, Refused}
 use Rattle.report.proofs.Widths.{runs-number}
+use Rattle.report.proofs.Stretches as stretches
 use Rattle.report.proofs.Stretches.{exactly-longest, in-one, in-no-second, none-wider, one-as-wide}
 use Rattle.report.proofs.Summed.{total-count, nothing-free}
 use Rattle.report.proofs.Total.{free-total}
 use Rattle.report.proofs.Joined.{both-parts, over-the-end, one-less}
+use Rattle.report.proofs.Fitting.{in-a-run, run-has}
 use Rattle.report.proofs.Turning.{same-numbers}
 
 abbrev unsaidAs : Verdict → Said → Reported
@@ -107,7 +109,7 @@ module _ (k : Link) (ds os : List ℕ) where
           let total = free-total (k .period) (spanOf k) (k .size) ds os (in-range k ds os (w .0)) (omega arith) (w .1) c in
           omega (arith, ap (λ (s : Stretch). s .free) (numbers c))
 
-      -- some slot is used, so no stretch goes all the way round
+      -- some slot is used: on a circle that is free all round no slot would be in a stretch, and there is none
       pub some-used : (c : Crossing) → (u : ℕ) × (u < k .period) × (freeIn c u ≡ false)
       unfolding stretchOf
       some-used c =
@@ -146,9 +148,10 @@ module _ (k : Link) (ds os : List ℕ) where
           let m = exactly-longest (freeIn c) (k .period) (w .0) .0 (w .1) in
           (w .0, m, w .2, λ y n v. in-no-second (freeIn c) (k .period) s y (w .0) n m v (w .2))
 
-      -- "a run at the end and a run at the start are one stretch": there is one less than on the line from slot 0 to slot P-1
+      -- "a run at the end and a run at the start are one stretch": where slots 0 and P-1 are both free there is one stretch fewer than
+      -- on the line from slot 0 to slot P-1, else there are as many
       pub joined : (c : Crossing) → of c a b .stretches + cond (freeIn c 0 && freeIn c (k .period - 1)) 1 0
-          ≡ count (beginsOnLine (freeIn c)) (k .period)
+          ≡ count (runBeginsOnLine (freeIn c)) (k .period)
       joined c =
           let w = some-used c in
           omega (arith, stretches-counted c, one-less (freeIn c) (k .period) (omega (arith, w .1)))
@@ -167,9 +170,25 @@ module _ (k : Link) (ds os : List ℕ) where
           let w = one-as-wide (runs (freeIn c) (k .period)) (omega (arith, ap (λ (x : Stretch). x .stretches) (numbers c))) in
           (w .0, exactly-longest _ _ (w .0) .0 (w .1), w .2 ∙ sym (ap (λ (x : Stretch). x .widest) (numbers c)))
 
+      -- "Planners use the widest stretch to see whether another service fits": l slots in a row are free in the crossing exactly where the
+      -- widest stretch has as many
+      pub room-exactly : (c : Crossing) (l : ℕ) → 0 < l
+          → ((s : ℕ) × (s < k .period) × AllFrom (freeIn c) (k .period) l s) ↔ (l ≤ of c a b .widest)
+      unfolding stretchOf
+      room-exactly c l h =
+          let w : of c a b .widest ≡ widestOf (runs (freeIn c) (k .period)) = ap (λ (x : Stretch). x .widest) (numbers c) in (
+            λ r. omega (arith, w, in-a-run (freeIn c) (k .period) (some-used c) l (r .0) h (r .1) (r .2)),
+            λ m. run-has (freeIn c) (k .period) l h (omega (arith, w)),
+          )
+
       -- rows that fill the period leave no stretch
       pub full : length ds * k .size ≡ k .period → (c : Crossing) → of c a b ≡ noStretch
       full h c = numbers c ∙ nothing-free (freeIn c) (k .period) (omega (arith, counted c, with-used c))
+
+  -- where a stretch has its first slot, and nowhere else, one is counted
+  pub begins-exactly : (c : Crossing) (s : ℕ) → s < k .period
+      → (runBegins (freeIn c) (k .period) s ≡ true) ↔ ((x : Run) × Longest (freeIn c) (k .period) x × (x .first ≡ s))
+  begins-exactly c = stretches.begins-exactly (freeIn c) (k .period)
 
   -- a stretch with slot P-1 has slot 0 too, if that is free; it is as wide as its part up to slot P-1 and what is free from slot 0 on
   module _ (c : Crossing) (x : Run) (w : Longest (freeIn c) (k .period) x) (u : Within (k .period) (k .period - 1) x) where

@@ -52,7 +52,7 @@ module _ (q : ℕ → Bool) (p : ℕ) where
   longest-from : (a : ℕ) → a < p → runBegins q p a ≡ true → Longest q p (from a)
   longest-from a l e =
       let w = begins-has q p a e in
-      let short = width-upto q p a (p - 1) (w .1) in
+      let ends = width-upto q p a (p - 1) (w .1) in
       record {
         some = width-some q p a (omega arith) (w .0);
         inside = l;
@@ -71,6 +71,10 @@ module _ (q : ℕ → Bool) (p : ℕ) where
         begins-here q p (r .first) (rw i at (w .each 0 (w .some))) (w .before),
         ap (λ (k : ℕ). record { first = r .first; wide = k }) (sym wide),
       )
+
+  -- a run begins exactly where a longest one has its first slot
+  pub begins-exactly : (a : ℕ) → a < p → (runBegins q p a ≡ true) ↔ ((r : Run) × Longest q p r × (r .first ≡ a))
+  begins-exactly a l = (λ e. (from a, longest-from a l e, refl), λ w. rw (w .2) at (from-longest (w .0) (w .1) .0))
 
   -- "A stretch is a longest run": the list has these, and no others
   pub exactly-longest : (r : Run) → List·Memᴰ r (runs q p) ↔ Longest q p r

@@ -4,14 +4,15 @@ use mathlib.Core.Bool.{Bool, not}
 use mathlib.Core.List.{List}
 use Prim.Native.Nat.{ℕ, _+_, _-_, _%_, _≤_, _<_}
 use native.Mathlib.Omega.{arith}
-use native.Mathlib.Nat.{mod-lt, mod-add-mod}
+use native.Mathlib.Nat.{mod-lt}
 use lib.Dec.{ltb}
 use lib.ListN.{length}
 use Rattle.ground.specs.Count.{count}
 use Rattle.ground.proofs.Counting.{count-cong, count-turn}
 use Rattle.ground.proofs.Minimum.{least-cong}
-use Rattle.ground.proofs.Remainders.{back-and-there}
+use Rattle.ground.proofs.Remainders.{back-and-on}
 use Rattle.link.specs.Rows.{Crossing, start, movedOn}
+use Rattle.link.specs.Slots.{after}
 use Rattle.link.proofs.Turning.{uses-moved, start-moved}
 use Rattle.report.specs.Runs.{around, runBegins, Run, Longest, runs, widestOf}
 use Rattle.report.specs.Free.{usedOf, freeOf, isFree, stretchOf}
@@ -25,7 +26,7 @@ Turns p r q v = (x : ℕ) → around q p x ≡ around v p (x + r)
 module _ (p r : ℕ) (q v : ℕ → Bool) (some : 0 < p) (h : Turns p r q v) where
   -- and back again
   turned-back : Turns p (p - r % p) v q
-  turned-back x = sym (h (x + (p - r % p)) ∙ ap v (sym (mod-add-mod (x + (p - r % p)) p r) ∙ back-and-there p some r x))
+  turned-back x = sym (h (x + (p - r % p)) ∙ ap v (back-and-on p some r x))
 
   begins-turned : (a : ℕ) → runBegins q p a ≡ runBegins v p (a + r)
   unfolding runBegins
@@ -36,8 +37,8 @@ module _ (p r : ℕ) (q v : ℕ → Bool) (some : 0 < p) (h : Turns p r q v) whe
       runs-number q p p ∙ count-cong (runBegins q p) (λ a. runBegins v p (a + r)) p (λ a _. begins-turned a)
       ∙ count-turn (runBegins v p) p (begins-again v p) r ∙ sym (runs-number v p p)
 
-  same-free : count q p ≡ count v p
-  same-free =
+  same-count : count q p ≡ count v p
+  same-count =
       sym (count-cong (around q p) q p (around-low q p)) ∙ count-cong (around q p) (λ a. around v p (a + r)) p (λ a _. h a)
       ∙ count-turn (around v p) p (around-again v p) r ∙ count-cong (around v p) v p (around-low v p)
 
@@ -66,12 +67,12 @@ unfolding stretchOf
 same-turned p r q v some h =
     let back = not-wider p (p - r % p) v q some (turned-back p r q v some h) in
     let w : widestOf (runs q p) ≡ widestOf (runs v p) = omega (arith, not-wider p r q v some h) in
-    rw (same-free p r q v some h, same-number p r q v some h, w)
+    rw (same-count p r q v some h, same-number p r q v some h, w)
 
 -- the free slots of a plan that is turned
 module _ (p t : ℕ) (ds os : List ℕ) (r : ℕ) (some : 0 < p) (as-many : length os ≡ length ds) where
   free-turned : (c : Crossing) → Turns p r (isFree p t ds os c) (isFree p t ds (movedOn p r os) c)
-  unfolding freeOf usedOf
+  unfolding freeOf usedOf after
   free-turned c x =
       ap (λ (k : ℕ). not (ltb k (length ds))) (least-cong _ _ (length ds)
       (λ i l. rw (start-moved p r some ds os c i (omega arith)) (sym (uses-moved p r some t (start p ds os c i) x))))

@@ -81,7 +81,7 @@ module _ (q : ℕ → Bool) (p : ℕ) where
 
   -- where some slot has not the test, every run ends
   module _ (u : Ends q p) where
-    pub width-short : (a : ℕ) → width q p a < p
+    width-short : (a : ℕ) → width q p a < p
     width-short a =
         let some : 0 < p = omega (arith, u .1) in
         let k = (u .0 + (p - a % p)) % p in

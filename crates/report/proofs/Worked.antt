@@ -9,7 +9,7 @@ use Rattle.link.specs.Range.{GoodPlan}
 use Rattle.ground.specs.Judging.{first, outside, andThen}
 use Rattle.link.specs.Refusal.{linkFaults, rowFaults, offsetFaults}
 use Rattle.link.specs.Rows.{Crossing, one, second, start, hits, either, free, Clear}
-use Rattle.link.specs.Slots.{uses, meets}
+use Rattle.link.specs.Slots.{uses, after, meets}
 use Rattle.link.specs.declared.Link.{Link}
 use Rattle.checker.specs.Answer.{blocked}
 use Rattle.checker.specs.Judging.{clearFaults}
@@ -17,7 +17,7 @@ use Rattle.checker.specs.declared.Checked.the-variants.{Collision}
 use Rattle.checker.proofs.Promises.{collision-is-first}
 use Rattle.checker.proofs.Worked.{collides, not-clear}
 use Rattle.ground.specs.Count.{count}
-use Rattle.report.specs.Runs.{runBegins, beginsOnLine, width, Run, Within, Longest, runsBelow, runs, widestOf, totalOf}
+use Rattle.report.specs.Runs.{runBegins, runBeginsOnLine, width, AllFrom, Run, Within, Longest, runsBelow, runs, widestOf, totalOf}
 use Rattle.report.specs.Free.{usedOf, freeOf, isFree, stretchOf}
 use Rattle.report.specs.Answer.{noStretch, said, told, answer}
 use Rattle.report.specs.declared.Stretch.{Stretch}
@@ -25,7 +25,8 @@ use Rattle.report.specs.declared.Reported.{Reported}
 use Rattle.report.specs.declared.Reported.the-variants.{Stretches, Refused}
 use Rattle.report.proofs.Promises.{of, no-second, reports-exactly, not-clear-refused}
 use Rattle.report.proofs.Promises.{counted, summed, left-over, stretches-counted, none-is-wider, one-is-as-wide, full}
-use Rattle.report.proofs.Promises.{some-used, in-one-stretch, one-stretch, wide-as-both, joined, turning}
+use Rattle.report.proofs.Promises.{some-used, begins-exactly, room-exactly, in-one-stretch, one-stretch, wide-as-both}
+use Rattle.report.proofs.Promises.{joined, turning}
 
 abbrev link : ℕ → ℕ → Link
 link p t = record { period = p; size = t }
@@ -90,7 +91,20 @@ three-wide = one-is-as-wide (link 5 2) ds os (Stretches free-3 free-3) (table .b
 pub not-wider : three-wide .0 .wide ≤ 3
 not-wider = none-is-wider (link 5 2) ds os (Stretches free-3 free-3) (table .both-ends) _ _ refl one (three-wide .0) (three-wide .1)
 
--- the stretch with slot 4 has slot 0 too, and no other one has it
+-- three slots in a row are free, and no four
+pub room-for-3 : (s : ℕ) × (s < 5) × AllFrom (isFree 5 2 ds os one) 5 3 s
+room-for-3 = room-exactly (link 5 2) ds os (Stretches free-3 free-3) (table .both-ends) _ _ refl one 3 (omega arith) .1 (omega arith)
+
+pub no-room-for-4 : (s : ℕ) → s < 5 → AllFrom (isFree 5 2 ds os one) 5 4 s → ⊥
+no-room-for-4 s l f =
+    let m = room-exactly (link 5 2) ds os (Stretches free-3 free-3) (table .both-ends) _ _ refl one 4 (omega arith) .0 (s, l, f) in
+    omega arith
+
+-- a stretch is counted at its first slot
+pub first-of-one : runBegins (isFree 5 2 ds os one) 5 (three-wide .0 .first) ≡ true
+first-of-one = begins-exactly (link 5 2) ds os one (three-wide .0 .first) (three-wide .1 .inside) .1 (three-wide .0, three-wide .1, refl)
+
+-- the stretch that slot 4 is in, and no other, has slot 0 too
 pub at-the-end : (isFree 5 2 ds os one 4 ≡ true) × (isFree 5 2 ds os one 0 ≡ true)
 unfolding freeOf usedOf start uses least oneMore
 at-the-end = (refl, refl)
@@ -107,12 +121,13 @@ two-and-one = wide-as-both (link 5 2) ds os one (with-slot-4 .0) (with-slot-4 .1
 
 -- turned by three slots, the message goes over the period's end
 pub turned : said (Stretches free-3 free-3) ≡ answer (link 5 2) ds (4 ∷ [])
+unfolding after
 turned = table .both-ends ∙ sym (turning (link 5 2) ds os (is-clear .0) 3)
 
 -- and at others
 pub one-joined : (c : Crossing) → of c (three 6 2 5) (three 6 2 5) .stretches
     + cond (isFree 10 2 (0 ∷ 4 ∷ []) (1 ∷ 4 ∷ []) c 0 && isFree 10 2 (0 ∷ 4 ∷ []) (1 ∷ 4 ∷ []) c 9) 1 0
-    ≡ count (beginsOnLine (isFree 10 2 (0 ∷ 4 ∷ []) (1 ∷ 4 ∷ []) c)) 10
+    ≡ count (runBeginsOnLine (isFree 10 2 (0 ∷ 4 ∷ []) (1 ∷ 4 ∷ []) c)) 10
 one-joined c = joined (link 10 2) (0 ∷ 4 ∷ []) (1 ∷ 4 ∷ []) (Stretches (three 6 2 5) (three 6 2 5)) (table .ends-differ) _ _ refl c
 
 pub none-left : (a b : Stretch) → said (Stretches a b) ≡ answer (link 5 5) (3 ∷ []) (2 ∷ []) → (c : Crossing) → of c a b ≡ noStretch
@@ -129,6 +144,7 @@ eighteen r e =
 
 -- and so it is turned by nine slots
 pub turned-eighteen : said (Refused 18 2) ≡ answer (link 10 2) (0 ∷ 3 ∷ 7 ∷ []) (9 ∷ 1 ∷ 3 ∷ [])
+unfolding after
 turned-eighteen = table .not-clear ∙ sym (turning (link 10 2) (0 ∷ 3 ∷ 7 ∷ []) (0 ∷ 2 ∷ 4 ∷ []) in-range 9)
 
 pub only-report : (r : Reported) → said r ≡ answer (link 5 2) ds os → r ≡ Stretches free-3 free-3

@@ -36,7 +36,7 @@ unfoldable pub said : Reported → Said
 said (Stretches a b) = telling a b
 said (Refused n p) = refusing n p
 
--- "For a clear plan and each crossing"; since request Two "a run at the end and a run at the start are one stretch"
+-- "For a clear plan and each crossing"
 unfoldable pub told : ℕ → ℕ → List ℕ → List ℕ → Said
 told p t ds os = telling (stretchOf (isFree p t ds os one) p) (stretchOf (isFree p t ds os two) p)
 

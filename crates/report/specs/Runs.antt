@@ -14,14 +14,18 @@ around q p x = q (x % p)
 unfoldable pub runBegins : (ℕ → Bool) → ℕ → ℕ → Bool
 runBegins q p a = around q p a && not (around q p (a + (p - 1)))
 
+-- to compare, a run of document 01, "from slot 0 to slot P-1, not joined across the end": one begins at slot 0 whatever comes before it
+abbrev pub runBeginsOnLine : (ℕ → Bool) → ℕ → Bool
+runBeginsOnLine q zero = q zero
+runBeginsOnLine q (suc a) = q (suc a) && not (q a)
+
 -- how many slots from a on have q before one has not; p where all have
 unfoldable pub width : (ℕ → Bool) → ℕ → ℕ → ℕ
 width q p a = least (λ k. not (around q p (a + k))) p
 
--- document 01's runs on the line from slot 0 on, to compare: one begins at slot 0 whatever comes before it
-abbrev pub beginsOnLine : (ℕ → Bool) → ℕ → Bool
-beginsOnLine q zero = q zero
-beginsOnLine q (suc a) = q (suc a) && not (q a)
+-- the l slots from a on have q
+abbrev pub AllFrom : (ℕ → Bool) → ℕ → ℕ → ℕ → Type 0
+AllFrom q p l a = (k : ℕ) → k < l → around q p (a + k) ≡ true
 
 pub record Run : Type 0 where
   pub first : ℕ
@@ -31,11 +35,12 @@ pub record Run : Type 0 where
 abbrev pub Within : ℕ → ℕ → Run → Type 0
 Within p s r = Uses p (r .wide) (r .first) s
 
--- "a longest run" of slots that have q: neither the slot before it nor the slot after it has q
+-- "a longest run" of slots that have q: neither the slot before it nor the slot after it has q.
+-- "a run at the end and a run at the start are one stretch": the slots are counted on round the circle.
 pub record Longest (q : ℕ → Bool) (p : ℕ) (r : Run) : Type 0 where
   pub some : 0 < r .wide
   pub inside : r .first < p
-  pub each : (k : ℕ) → k < r .wide → around q p (r .first + k) ≡ true
+  pub each : AllFrom q p (r .wide) (r .first)
   pub before : around q p (r .first + (p - 1)) ≡ false
   pub after : around q p (r .first + r .wide) ≡ false
 

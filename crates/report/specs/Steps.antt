@@ -2,11 +2,10 @@
 use mathlib.Core.Path.{_≡_}
 use mathlib.Core.Bool.{Bool}
 use mathlib.Core.List.{List}
-use Prim.Native.Nat.{ℕ, _+_, _-_, _%_, _≤_, _<_}
+use Prim.Native.Nat.{ℕ, _+_, _%_, _≤_, _<_}
 use lib.ListN.{length, getD}
-use Rattle.link.specs.Slots.{after, Meet}
+use Rattle.link.specs.Slots.{Meet}
 use Rattle.report.specs.Free.{freeOf}
-use Rattle.report.specs.Runs.{width}
 
 -- the start of row i
 abbrev pub at : List ℕ → ℕ → ℕ
@@ -23,16 +22,8 @@ pub record Placed (p t : ℕ) (xs : List ℕ) : Type 0 where
 abbrev pub freeAt : ℕ → ℕ → List ℕ → ℕ → Bool
 freeAt p t xs = freeOf p t (at xs) (length xs)
 
--- the slot right after row i's message
-abbrev pub endOf : ℕ → ℕ → List ℕ → ℕ → ℕ
-endOf p t xs i = after p t (at xs i)
-
--- how many slots are free from there on
-unfoldable pub behind : ℕ → ℕ → List ℕ → ℕ → ℕ
-behind p t xs i = width (freeAt p t xs) p (endOf p t xs i)
-
 -- r slots on from the slot x is the next of the first n starts; r is the period where there is none
 pub record NextStart (p : ℕ) (xs : List ℕ) (n x r : ℕ) : Type 0 where
   pub high : r ≤ p
   pub start : r < p → (i : ℕ) × (i < n) × (at xs i ≡ (x + r) % p)
-  pub least : (i : ℕ) → i < n → r ≤ (at xs i + (p - x)) % p
+  pub before : (k : ℕ) → k < r → (i : ℕ) → i < n → at xs i ≡ (x + k) % p → ⊥

@@ -82,9 +82,9 @@ fn wider(a: u32, b: u32) -> u32
     if a < b { b } else { a }
 }
 
-// How many slots on from x the next message starts, round the period.
+// How many slots on from x the next message starts, round the period. A start turned back by x is so many slots on from x.
 fn next_start(period: u32, starts: &[u32], x: u32) -> u32
-    requires { ⌜ (x < period) × ((i : ℕ) → i < length (now starts) → at (now starts) i < period) ⌝ }
+    requires { ⌜ (x < period) × (0 < length (now starts)) × ((i : ℕ) → i < length (now starts) → at (now starts) i < period) ⌝ }
     ensures { λ r. ⌜ NextStart period (now (starts .entry)) (length (now (starts .entry))) x r ⌝ }
 {
     let back = period - x;

@@ -28,12 +28,13 @@ turn-requires c κs =
     (pre .low _ (omega arith), omega (arith, pre .size-low, pre .size-high))
 
 next-start-requires : tie.Need-next-start-requires Inv-loop μ-loop
-next-start-requires c κs = (c .turn .ensures .1, c .before .before .before .before .before .pre .low)
+next-start-requires c κs = (c .turn .ensures .1, omega arith, c .before .before .before .before .before .pre .low)
 
 sub-free : tie.Need-sub-free Inv-loop μ-loop
 sub-free c =
     let l = c .before .before .before .before in
-    fits (l .before .before .pre) (l .loop .inv) (omega arith) .0
+    let room = fits (l .before .before .pre) (l .loop .inv) (omega arith) .0 in
+    omega (arith, l .before .before .pre .size-low)
 
 add-i : tie.Need-add-i Inv-loop μ-loop
 add-i c = search needs

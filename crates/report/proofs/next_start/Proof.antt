@@ -4,7 +4,7 @@ use Prim.Native.Nat.{_-_, _≤_}
 use native.Mathlib.Omega.{arith}
 use lib.ListN.{length}
 use Rattle.report.specs.Steps.{NextStart}
-use Rattle.report.proofs.Behind.{none-yet, one-more}
+use Rattle.report.proofs.Starts.{no-start-yet, one-start-more}
 use borrow.Author.Needs.{needs}
 use Rattle.report.proofs.next_start.Statement.{statement}
 use Rattle.report.proofs.next_start.Tie as tie
@@ -19,7 +19,7 @@ sub-back : tie.Need-sub-back Inv-loop μ-loop
 sub-back c = search needs
 
 loop-holds : tie.Need-loop-holds Inv-loop μ-loop
-loop-holds c = (omega arith, none-yet _ _ _)
+loop-holds c = (omega arith, no-start-yet _ _ _)
 
 mul-turn : tie.Need-mul-turn Inv-loop μ-loop
 mul-turn c = search needs
@@ -28,7 +28,7 @@ shared-slice-read-turn : tie.Need-shared-slice-read-turn Inv-loop μ-loop
 shared-slice-read-turn c = search needs
 
 turn-requires : tie.Need-turn-requires Inv-loop μ-loop
-turn-requires c κs = (c .before .before .before .before .pre .1 _ (omega arith), omega arith)
+turn-requires c κs = (c .before .before .before .before .pre .2 _ (omega arith), omega arith)
 
 nearer-requires : tie.Need-nearer-requires Inv-loop μ-loop
 nearer-requires c κs = search needs
@@ -44,7 +44,7 @@ loop-again c =
     let l = c .before .before .before .before in
     let pre = l .before .before .pre in
     rw (c .nearer .ensures)
-    (omega arith, one-more _ _ _ _ _ _ (pre .0) (pre .1 _ (omega arith)) (l .loop .inv .1) (c .before .turn .ensures .0))
+    (omega arith, one-start-more _ _ _ _ _ _ (pre .0) (pre .2 _ (omega arith)) (l .loop .inv .1) (c .before .turn .ensures .0))
 
 returns : tie.Need-returns Inv-loop μ-loop
 returns c =
