@@ -1,21 +1,18 @@
 -- The runs of a test on a circle are exactly the longest ones; each slot with the test lies in one, and in no second one; the widest is the
 -- widest of them. Assumes nothing.
 use mathlib.Core.Path.{_≡_, refl, sym, _∙_, ap}
-use mathlib.Core.Bool.{Bool, true, false, not}
+use mathlib.Core.Bool.{Bool, true, false}
 use mathlib.Core.Logic.{⊎-elim, _↔_}
 use mathlib.Core.List.{List, [], _∷_, List·Memᴰ, List·Memᴰ·head, List·Memᴰ·tail, List·Memᴰ·cases-cons, List·Memᴰ·not-nil}
 use Prim.Native.Nat.{ℕ, zero, suc, _+_, _-_, _%_, _≤_, _<_, max}
 use native.Mathlib.Omega.{arith}
-use native.Mathlib.Nat.{mod-lt, mod-mod, mod-eq-of-lt, mod-add-mod, add-mod-right}
+use native.Mathlib.Nat.{mod-lt, mod-eq-of-lt, mod-add-mod, add-mod-right}
 use lib.ListN.{length}
-use borrow.Author.Tests.{not-true, not-false}
 use Rattle.ground.proofs.Bools.{clash, lt-or-ge, true-or-false}
-use Rattle.ground.proofs.Minimum.{least-is}
-use Rattle.ground.proofs.Remainders.{same-on}
-use Rattle.ground.specs.Least.{least, IsLeast}
+use Rattle.ground.proofs.Remainders.{back-and-there, same-on}
 use Rattle.report.specs.Runs.{around, runBegins, width, Run, Within, Longest, runsBelow, runs, widestOf}
-use Rattle.report.proofs.Widths.{Ends, around-again, around-from, around-low, begins-here, begins-has, runs-in, runs-out}
-use Rattle.report.proofs.Widths.{width-each, width-end, width-at, width-some, width-upto}
+use Rattle.report.proofs.Widths.{Ends, around-before, around-low, begins-here, begins-has, begins-from, runs-in, runs-out}
+use Rattle.report.proofs.Widths.{width-each, width-end, width-at, width-some, width-upto, width-short, width-from}
 
 module _ (q : ℕ → Bool) (p : ℕ) where
   -- the run that begins at a
@@ -83,64 +80,50 @@ module _ (q : ℕ → Bool) (p : ℕ) where
     λ w. let f = from-longest r w in rw (f .1) (has-from p (r .first) (w .inside) (f .0)),
   )
 
-  -- back from s, j slots, to the nearest slot that has not the test: a run begins after it and goes on to s
-  module _ (s j : ℕ) (hs : s < p) (e : q s ≡ true) (h : IsLeast (λ i. not (around q p (s + (p - i)))) p j) (hj : j < p) where
-    free-back : (i : ℕ) → i < j → around q p (s + (p - i)) ≡ true
-    free-back i l = not-false _ (h .before i l)
+  -- a run began at a, which is not above x, and has gone on to x
+  abbrev Begun : ℕ → Type 0
+  Begun x = (a : ℕ) × (a ≤ x) × (runBegins q p a ≡ true) × ((y : ℕ) → a ≤ y → y ≤ x → around q p y ≡ true)
 
-    some-back : 0 < j
-    some-back = ⊎-elim (λ l. l) (λ l. clash (around-again q p s ∙ around-low q p s hs ∙ e) (none (omega arith))) (lt-or-ge 0 j)
-      where
-        none : j ≡ 0 → around q p (s + p) ≡ false
-        none z = let i : s + (p - j) ≡ s + p = omega arith in rw i at (not-true (around q p (s + (p - j))) (h .here hj))
+  begun-now : (x : ℕ) → around q p x ≡ true → runBegins q p x ≡ true → Begun x
+  begun-now x e b = (x, omega arith, b, λ y l m. let i : y ≡ x = omega arith in rw i e)
 
-    -- the slot where it begins, as so many slots on from slot 0
-    abbrev begin : ℕ
-    begin = s + (p - (j - 1))
+  begun-before : (x : ℕ) → around q p (suc x) ≡ true → Begun x → Begun (suc x)
+  begun-before x e w = (
+    w .0,
+    omega (arith, w .1),
+    w .2,
+    λ y l m. ⊎-elim (λ b. w .3 y l (omega arith)) (λ b. let i : y ≡ suc x = omega arith in rw i e) (lt-or-ge y (suc x)),
+  )
 
-    begins : runBegins q p (begin % p) ≡ true
-    begins =
-        let i : begin + (p - 1) ≡ s + (p - j) + p = omega (arith, some-back) in
-        begins-here q p (begin % p) (ap q (mod-mod begin p) ∙ free-back (j - 1) (omega (arith, some-back)))
-        (around-from q p begin (p - 1) ∙ rw i (around-again q p (s + (p - j)) ∙ not-true _ (h .here hj)))
-
-    reaches : j - 1 < width q p (begin % p)
-    reaches = ⊎-elim (λ l. l) (λ l. absurd (stops l)) (lt-or-ge (j - 1) (width q p (begin % p)))
-      where
-        stops : width q p (begin % p) ≤ j - 1 → ⊥
-        stops l =
-            let w = width q p (begin % p) in
-            let i : begin + w ≡ s + (p - (j - 1 - w)) = omega (arith, some-back) in
-            clash (free-back (j - 1 - w) (omega (arith, some-back)))
-            (rw i at (sym (around-from q p begin w) ∙ width-end q p (begin % p) (omega arith)))
-
-    pub in-this : (r : Run) × List·Memᴰ r (runs q p) × Within p s r
-    in-this =
-        let i : begin + (j - 1) ≡ s + p = omega (arith, some-back) in (
-          from (begin % p),
-          has-from p (begin % p) (mod-lt begin (omega arith)) begins,
-          (j - 1, reaches, mod-add-mod begin p (j - 1) ∙ rw i (add-mod-right s p ∙ mod-eq-of-lt hs)),
-        )
+  -- on from a slot u that has not the test
+  begun : (u d : ℕ) → 0 < p → around q p u ≡ false → around q p (d + u) ≡ true → Begun (d + u)
+  begun u zero h f e = let i : 0 + u ≡ u = omega arith in clash (rw i at e) f
+  begun u (suc d) h f e =
+      let i : suc d + u ≡ suc (d + u) = omega arith in
+      rw i
+      (⊎-elim (λ t. begun-before (d + u) (rw i at e) (begun u d h f t))
+      (λ t. begun-now (suc (d + u)) (rw i at e) (begins-here q p (suc (d + u)) (rw i at e) (around-before q p (d + u) h ∙ t)))
+      (true-or-false (around q p (d + u))))
 
   -- each slot with the test lies in a run of the list
   pub in-one : Ends q p → (s : ℕ) → s < p → q s ≡ true → (r : Run) × List·Memᴰ r (runs q p) × Within p s r
-  in-one u s l e = in-this s (least back p) l e (least-is back p) (⊎-elim behind ahead (lt-or-ge s (u .0)))
+  in-one u s l e = found ((s + (p - u .0 % p)) % p) (back-and-there p (omega arith) (u .0) s ∙ mod-eq-of-lt l)
     where
-      back : ℕ → Bool
-      back i = not (around q p (s + (p - i)))
+      here : (x : ℕ) → x % p ≡ s → Begun x → (r : Run) × List·Memᴰ r (runs q p) × Within p s r
+      here x f w =
+          let a = w .0 in
+          let k = x - a in
+          let i : a + k ≡ x = omega (arith, w .1) in
+          let goes-on : k < width q p a =
+          ⊎-elim (λ m. m) (λ m. clash (w .3 (a + width q p a) (omega arith) (omega arith)) (width-end q p a (width-short q p u a)))
+          (lt-or-ge k (width q p a)) in (
+            from (a % p),
+            has-from p (a % p) (mod-lt a (omega arith)) (begins-from q p a ∙ w .2),
+            (k, omega (arith, width-from q p a), mod-add-mod a p k ∙ rw i f),
+          )
 
-      found : (j : ℕ) → j < p → around q p (s + (p - j)) ≡ false → least back p < p
-      found j b f = ⊎-elim (λ m. m) (λ m. clash (ap not f) (least-is back p .before j (omega arith))) (lt-or-ge (least back p) p)
-
-      behind : s < u .0 → least back p < p
-      behind m =
-          let i : s + (p - (s + p - u .0)) ≡ u .0 = omega (arith, u .1) in
-          found (s + p - u .0) (omega arith) (rw i (around-low q p (u .0) (u .1) ∙ u .2))
-
-      ahead : u .0 ≤ s → least back p < p
-      ahead m =
-          let i : s + (p - (s - u .0)) ≡ u .0 + p = omega arith in
-          found (s - u .0) (omega arith) (rw i (around-again q p (u .0) ∙ around-low q p (u .0) (u .1) ∙ u .2))
+      found : (d : ℕ) → (d + u .0) % p ≡ s → (r : Run) × List·Memᴰ r (runs q p) × Within p s r
+      found d f = here (d + u .0) f (begun (u .0) d (omega arith) (around-low q p (u .0) (u .1) ∙ u .2) (ap q f ∙ e))
 
   -- and in no second one
   pub in-no-second : (s : ℕ) (r x : Run) → Longest q p r → Longest q p x → Within p s r → Within p s x → r ≡ x

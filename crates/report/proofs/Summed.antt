@@ -12,7 +12,7 @@ use Rattle.report.specs.Runs.{around, runBegins, width, runsBelow, runs,
 use Rattle.report.specs.Free.{stretchOf}
 use Rattle.report.specs.Answer.{noStretch}
 use Rattle.ground.proofs.Counting.{same-up, count-in, count-out, count-none, count-cong}
-use Rattle.report.proofs.Widths.{Ends, around-again, around-low, begins-here, begins-not, begins-again, goes-on}
+use Rattle.report.proofs.Widths.{Ends, around-before, around-low, begins-here, begins-not, begins-again, goes-on}
 use Rattle.report.proofs.Widths.{width-more, width-none, width-again, runs-in, runs-out}
 
 module _ (q : ℕ → Bool) (p : ℕ) (u : Ends q p) where
@@ -29,9 +29,8 @@ module _ (q : ℕ → Bool) (p : ℕ) (u : Ends q p) where
   left-none : (m : ℕ) → around q p m ≡ false → left m ≡ 0
   left-none m e = left-on m (begins-not q p m e) ∙ width-none q p m e
 
-  -- the slot before suc m is m
   before : (m : ℕ) → around q p (suc m + (p - 1)) ≡ around q p m
-  before m = let e : suc m + (p - 1) ≡ m + p = omega (arith, u .1) in ap (around q p) e ∙ around-again q p m
+  before m = around-before q p m (omega (arith, u .1))
 
   left-behind : (m : ℕ) → around q p m ≡ false → left (suc m) ≡ 0
   left-behind m e =

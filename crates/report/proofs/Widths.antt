@@ -5,7 +5,7 @@ use mathlib.Core.Logic.{⊎-elim}
 use mathlib.Core.List.{_∷_}
 use Prim.Native.Nat.{ℕ, zero, suc, _+_, _-_, _%_, _≤_, _<_}
 use native.Mathlib.Omega.{arith}
-use native.Mathlib.Nat.{mod-lt, mod-eq-of-lt, mod-add-mod, add-mod-right, add-comm}
+use native.Mathlib.Nat.{mod-lt, mod-mod, mod-eq-of-lt, mod-add-mod, add-mod-right, add-comm}
 use lib.ListN.{length}
 use borrow.Author.Tests.{not-true, not-false}
 use Rattle.ground.proofs.Bools.{clash, is-false, and-parts, lt-or-ge, true-or-false}
@@ -27,6 +27,10 @@ module _ (q : ℕ → Bool) (p : ℕ) where
   pub around-from : (x k : ℕ) → around q p (x % p + k) ≡ around q p (x + k)
   around-from x k = ap q (mod-add-mod x p k)
 
+  -- the slot before suc x is x
+  pub around-before : (x : ℕ) → 0 < p → around q p (suc x + (p - 1)) ≡ around q p x
+  around-before x h = let e : suc x + (p - 1) ≡ x + p = omega arith in ap (around q p) e ∙ around-again x
+
   pub around-low : (s : ℕ) → s < p → around q p s ≡ q s
   around-low s l = ap q (mod-eq-of-lt l)
 
@@ -47,6 +51,10 @@ module _ (q : ℕ → Bool) (p : ℕ) where
   pub begins-again : (a : ℕ) → runBegins q p (a + p) ≡ runBegins q p a
   unfolding runBegins
   begins-again a = let e : a + p + (p - 1) ≡ a + (p - 1) + p = omega arith in rw (around-again a, e, around-again (a + (p - 1)))
+
+  pub begins-from : (a : ℕ) → runBegins q p (a % p) ≡ runBegins q p a
+  unfolding runBegins
+  begins-from a = rw (mod-mod a p, mod-add-mod a p (p - 1))
 
   -- what a width says
   pub width-each : (a k : ℕ) → k < width q p a → around q p (a + k) ≡ true
@@ -79,9 +87,13 @@ module _ (q : ℕ → Bool) (p : ℕ) where
   width-again a =
       least-cong _ _ p (λ k l. let e : a + p + k ≡ a + k + p = omega arith in ap not (ap (around q p) e ∙ around-again (a + k)))
 
+  pub width-from : (a : ℕ) → width q p (a % p) ≡ width q p a
+  unfolding width
+  width-from a = least-cong _ _ p (λ k l. ap not (around-from a k))
+
   -- where some slot has not the test, every run ends
   module _ (u : Ends q p) where
-    width-short : (a : ℕ) → width q p a < p
+    pub width-short : (a : ℕ) → width q p a < p
     width-short a =
         let some : 0 < p = omega (arith, u .1) in
         let k = (u .0 + (p - a % p)) % p in
