@@ -43,23 +43,22 @@ module _ (p r : ℕ) (some : 0 < p) where
         same-test _ _ (λ e. uses-true p l a (y % p) (uses-back (uses-slot p l (on a) (on y) e)))
         (λ e. uses-true p l (on a) (on y) (uses-on (uses-slot p l a (y % p) e)))
 
+  -- a used slot is a slot of the period, and r slots on from the one r slots before it
+  used-low : (l x s : ℕ) → Uses p l x s → Uses p l x (s % p)
+  used-low l x s u = (u .0, u .1, sym (mod-mod (x + u .0) p) ∙ ap (λ (z : ℕ). z % p) (u .2))
+
+  used-back : (l x s : ℕ) → Uses p l x s → Uses p l x (on (s + (p - r % p)))
+  unfolding after
+  used-back l x s u = let w = used-low l x s u in (w .0, w .1, w .2 ∙ sym (back-and-on p some r s))
+
   module _ (l a b : ℕ) where
     meet-on : Meet p l a b → Meet p l (on a) (on b)
-    meet-on m = (on (m .0), uses-on l a (m .0) (low a (m .1)), uses-on l b (m .0) (low b (m .2)))
-      where
-        low : (x : ℕ) → Uses p l x (m .0) → Uses p l x (m .0 % p)
-        low x u = (u .0, u .1, sym (mod-mod (x + u .0) p) ∙ ap (λ (s : ℕ). s % p) (u .2))
-
-    -- the slot s is r slots on from the one r slots before it
-    at-back : (s x : ℕ) → Uses p l (on x) s → Uses p l (on x) (on (s + (p - r % p)))
-    unfolding after
-    at-back s x u =
-        (u .0, u .1, sym (mod-mod (on x + u .0) p) ∙ ap (λ (z : ℕ). z % p) (u .2) ∙ sym (back-and-on p some r s))
+    meet-on m = (on (m .0), uses-on l a (m .0) (used-low l a (m .0) (m .1)), uses-on l b (m .0) (used-low l b (m .0) (m .2)))
 
     meet-back : Meet p l (on a) (on b) → Meet p l a b
     meet-back m =
         let y = m .0 + (p - r % p) in
-        (y % p, uses-back l a y (at-back (m .0) a (m .1)), uses-back l b y (at-back (m .0) b (m .2)))
+        (y % p, uses-back l a y (used-back l (on a) (m .0) (m .1)), uses-back l b y (used-back l (on b) (m .0) (m .2)))
 
     meets-moved : meets p l (on a) (on b) ≡ meets p l a b
     meets-moved =
@@ -79,18 +78,17 @@ module _ (p r : ℕ) (some : 0 < p) where
     unfolding start
     start-moved c i l = ap (startAt p c (getD ds i 0)) (moved-at i l) ∙ start-on c (getD ds i 0) (getD os i 0)
 
+    met-moved : (l : ℕ) (c : Crossing) (i j : ℕ) → i < length os → j < length os
+        → meets p l (start p ds (movedOn p r os) c i) (start p ds (movedOn p r os) c j) ≡ meets p l (start p ds os c i) (start p ds os c j)
+    met-moved l c i j a b = ap₂ (meets p l) (start-moved c i a) (start-moved c j b) ∙ meets-moved l (start p ds os c i) (start p ds os c j)
+
     -- row j meets an earlier row exactly where it did
     pub free-moved : (l j : ℕ) → j < length os
         → free p l ds (movedOn p r os) j (getD ds j 0) (getD (movedOn p r os) j 0) ≡ free p l ds os j (getD ds j 0) (getD os j 0)
-    unfolding free hits either
-    free-moved l j m = ap (λ (x : ℕ). not (ltb x j)) (least-cong _ _ j (λ i q. rw (hit one i (omega arith), hit two i (omega arith))))
-      where
-        hit : (c : Crossing) (i : ℕ) → i < length os
-            → meets p l (start p ds (movedOn p r os) c i) (startAt p c (getD ds j 0) (getD (movedOn p r os) j 0))
-            ≡ meets p l (start p ds os c i) (startAt p c (getD ds j 0) (getD os j 0))
-        hit c i q =
-            ap₂ (meets p l) (start-moved c i q) (ap (startAt p c (getD ds j 0)) (moved-at j m) ∙ start-on c (getD ds j 0) (getD os j 0))
-            ∙ meets-moved l (start p ds os c i) (startAt p c (getD ds j 0) (getD os j 0))
+    unfolding free hits either start
+    free-moved l j m =
+        ap (λ (x : ℕ). not (ltb x j))
+        (least-cong _ _ j (λ i q. rw (met-moved l one i j (omega arith) m, met-moved l two i j (omega arith) m)))
 
 -- a plan in range is so however it is turned
 pub good-moved : (k : Link) (ds os : List ℕ) (r : ℕ) → GoodPlan k ds os → GoodPlan k ds (movedOn (k .period) r os)
