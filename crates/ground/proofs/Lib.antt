@@ -2,6 +2,7 @@
 pub mod Bools
 pub mod Minimum
 pub mod Counting
+pub mod Sharing
 pub mod Series
 pub mod Elements
 pub mod Remainders

@@ -7,11 +7,11 @@ use mathlib.Core.List.{List, [], _∷_, _++_, append-assoc, append-nil, List·Me
 use mathlib.Core.List.{List·Memᴰ·not-nil, List·Memᴰ·append-cases, Memᴰ·append-left, Memᴰ·append-right}
 use Prim.Native.Nat.{ℕ, zero, suc, _+_, _*_, _<_, _≤_}
 use native.Mathlib.Omega.{arith}
-use native.Mathlib.Nat.{zero-mul, mul-zero, mul-suc, suc-mul, add-comm}
+use native.Mathlib.Nat.{zero-mul, mul-zero, mul-suc, suc-mul, add-comm, zero-add}
 use native.Mathlib.Numerals.{add-one}
-use lib.ListN.{length, length-append}
+use lib.ListN.{length, getD, length-append}
 use Rattle.ground.specs.Count.{count}
-use Rattle.ground.specs.Series.{from, Before, Increasing}
+use Rattle.ground.specs.Series.{from, listed, Before, Increasing}
 use Rattle.ground.proofs.Bools.{lt-or-ge}
 
 module _ {A : Type 0} where
@@ -90,6 +90,24 @@ module _ {A : Type 0} where
       go : (b : Bool) → w * count q m + cond b w 0 ≡ w * (cond b 1 0 + count q m)
       go true = rw (add-comm 1 (count q m), add-one) (sym (mul-suc w (count q m)))
       go false = let e : 0 + count q m ≡ count q m = omega arith in rw e (omega arith)
+
+module _ {A : Type 0} (f : ℕ → A) where
+  length-ones : (a m : ℕ) → length (from (λ i. f i ∷ []) a m) ≡ m
+  unfolding from
+  length-ones a zero = refl
+  length-ones a (suc m) = ap suc (length-ones (suc a) m)
+
+  getD-ones : (d : A) (a m i : ℕ) → i < m → getD (from (λ j. f j ∷ []) a m) i d ≡ f (a + i)
+  unfolding from
+  getD-ones d a zero i h = absurd (omega arith)
+  getD-ones d a (suc m) zero h = let e : a + 0 ≡ a = omega arith in rw e
+  getD-ones d a (suc m) (suc i) h = let e : a + suc i ≡ suc a + i = omega arith in rw e (getD-ones d (suc a) m i (omega arith))
+
+  pub length-listed : (m : ℕ) → length (listed f m) ≡ m
+  length-listed m = length-ones 0 m
+
+  pub getD-listed : (d : A) (m i : ℕ) → i < m → getD (listed f m) i d ≡ f i
+  getD-listed d m i h = getD-ones d 0 m i h ∙ ap f (zero-add i)
 
 module _ {A : Type 0} (f : ℕ → List A) where
   pub in-from : (a m i : ℕ) (x : A) → a ≤ i → i < a + m → List·Memᴰ x (f i) → List·Memᴰ x (from f a m)

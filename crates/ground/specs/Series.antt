@@ -9,6 +9,10 @@ unfoldable pub from : {A : Type 0} → (ℕ → List A) → ℕ → ℕ → List
 from f a zero = []
 from f a (suc n) = f a ++ from f (suc a) n
 
+-- f 0, f 1, .., f (n-1)
+abbrev pub listed : {A : Type 0} → (ℕ → A) → ℕ → List A
+listed f n = from (λ i. f i ∷ []) 0 n
+
 -- x is before each of a list; each element of a list is before all that follow
 module _ {A : Type 0} (lt : A → A → Bool) where
   abbrev pub Before : A → List A → Type 0

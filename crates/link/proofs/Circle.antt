@@ -1,12 +1,12 @@
 -- When two messages on the circle of p slots use a common slot: the difference test and the linear test. Assumes nothing.
-use mathlib.Core.Path.{_≡_, refl, sym, _∙_, subst}
+use mathlib.Core.Path.{_≡_, refl, sym, ap, _∙_, subst}
 use mathlib.Core.Bool.{Bool, true, false, not, _&&_}
 use mathlib.Core.Logic.{_⊎_, inl, inr, ⊎-elim}
 use Prim.Native.Nat.{ℕ, _+_, _-_, _%_, _≤_, _<_}
 use native.Mathlib.Omega.{arith}
 use native.Mathlib.Nat.{mod-lt, mod-eq-of-lt, mod-eq-sub-mod}
 use lib.Dec.{leb, eqb}
-use borrow.Author.Tests.{ltb-true, leb-true, le-leb, eqb-true, eq-eqb}
+use borrow.Author.Tests.{ltb-true, leb-true, le-leb, eqb-true, eq-eqb, not-false}
 use Rattle.ground.specs.Least.{least, some}
 use Rattle.link.specs.Slots.{uses, after, meets, differ, gap, apartb, Uses, Meet}
 use Rattle.ground.proofs.Bools.{clash, is-false, lt-or-ge, same-test, and-parts, and-both}
@@ -139,6 +139,12 @@ module _ (p l a b : ℕ) (ha : a < p) (hb : b < p) (hl : l ≤ p) where
       go : (x : Bool) → apartb p l a b ≡ x → some (λ s. uses p l a s && uses p l b s) p ≡ not x
       go true e = some-none _ p (none (apart-parts p l a b e))
       go false e = meet (λ w. clash (apart-true p l a b w) e)
+
+  pub apart-of : meets p l a b ≡ false → Apart p l a b
+  apart-of e = apart-parts p l a b (not-false (apartb p l a b) (sym meets-apart ∙ e))
+
+  pub apart-met : Apart p l a b → meets p l a b ≡ false
+  apart-met w = meets-apart ∙ ap not (apart-true p l a b w)
 
 -- the test is the statement
 pub uses-true : (p l a s : ℕ) → Uses p l a s → uses p l a s ≡ true

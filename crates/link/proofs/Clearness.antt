@@ -9,10 +9,10 @@ use lib.ListN.{length, getD}
 use borrow.Author.Tests.{not-true}
 use Rattle.link.specs.Slots.{Uses}
 use Rattle.link.specs.Rows.{Crossing, one, two, start, hits, either, free, ClearIn, Clear}
-use Rattle.ground.proofs.Bools.{clash, is-false, or-none}
+use Rattle.ground.proofs.Bools.{clash, is-false}
 use Rattle.ground.proofs.Minimum.{none-has, some-none, least-cong}
 use Rattle.link.proofs.Circle.{meets-true, meets-slot}
-use Rattle.link.proofs.Meeting.{neither}
+use Rattle.link.proofs.Meeting.{neither, none-hit}
 
 module _ {p l : ℕ} {ds os : List ℕ} where
   pub clear-in : Clear p l ds os → (c : Crossing) → ClearIn p l ds os c
@@ -32,8 +32,7 @@ module _ (p l : ℕ) (ds os : List ℕ) where
       hit j = hits p l ds os (getD ds j 0) (getD os j 0)
 
       at : (c : Crossing) (i j : ℕ) → i < j → j < length ds → hits p l ds os (getD ds j 0) (getD os j 0) c i ≡ false
-      at one i j d m = or-none (hit j one i) (hit j two i) (none-has (either (hit j)) j (not-true _ (f j m)) i d) .0
-      at two i j d m = or-none (hit j one i) (hit j two i) (none-has (either (hit j)) j (not-true _ (f j m)) i d) .1
+      at c i j d m = none-hit (hit j) c i (none-has (either (hit j)) j (not-true _ (f j m)) i d)
 
   pub rows-clear : Clear p l ds os → (j : ℕ) → j < length ds → free p l ds os j (getD ds j 0) (getD os j 0) ≡ true
   unfolding free hits start

@@ -4,5 +4,7 @@ pub mod Meeting
 pub mod Clearness
 pub mod Accepted
 pub mod Turning
+pub mod Touching
+pub mod Crowding
 pub mod Promises
 pub mod Worked

@@ -1,6 +1,7 @@
 -- How code shows which row is met first, and what that says of a plan. Assumes nothing.
 use mathlib.Core.Path.{_≡_, refl, sym, _∙_}
 use mathlib.Core.Bool.{Bool, true, false, not, cond, or-true}
+use mathlib.Core.Logic.{⊎-elim}
 use mathlib.Core.List.{List}
 use Prim.Native.Nat.{ℕ, _<_, _≤_}
 use native.Mathlib.Omega.{arith}
@@ -14,7 +15,7 @@ use Rattle.link.specs.Rows.{Crossing, one, two, numbered, second, startA
 use Rattle.link.specs.Rows.{firstNear, isNobody}
 use Rattle.link.specs.declared.Met.{Met}
 use Rattle.link.specs.declared.Met.the-variants.{Nobody, Row}
-use Rattle.ground.proofs.Bools.{clash, never}
+use Rattle.ground.proofs.Bools.{clash, never, or-none, true-or-false}
 use Rattle.link.proofs.Circle.{meets-apart}
 use Rattle.ground.proofs.Minimum.{least-at, least-is, least-cong, some-at, some-none, some-has}
 
@@ -27,6 +28,15 @@ module _ (h : Crossing → ℕ → Bool) where
   unfolding either
   hit-either one i e = rw e
   hit-either two i e = rw (e, or-true)
+
+  pub none-hit : (c : Crossing) (i : ℕ) → either h i ≡ false → h c i ≡ false
+  unfolding either
+  none-hit one i e = or-none (h one i) (h two i) e .0
+  none-hit two i e = or-none (h one i) (h two i) e .1
+
+  pub one-hit : (i : ℕ) → either h i ≡ true → (c : Crossing) × (h c i ≡ true)
+  unfolding either
+  one-hit i e = ⊎-elim (λ f. (one, f)) (λ f. (two, rw f at e)) (true-or-false (h one i))
 
   pub nobody : (n : ℕ) → ((i : ℕ) → i < n → either h i ≡ false) → Nobody ≡ firstHit h n
   unfolding firstHit

@@ -3,7 +3,7 @@
 use mathlib.Core.Path.{_≡_, refl, sym, _∙_, ap, ap₂}
 use mathlib.Core.Bool.{not}
 use mathlib.Core.List.{List}
-use Prim.Native.Nat.{ℕ, _+_, _-_, _%_, _<_}
+use Prim.Native.Nat.{ℕ, _+_, _-_, _%_, _≤_, _<_}
 use native.Mathlib.Omega.{arith}
 use native.Mathlib.Nat.{mod-mod, mod-add-mod}
 use lib.Dec.{ltb}
@@ -13,10 +13,11 @@ use Rattle.ground.proofs.Elements.{getD-mapped}
 use Rattle.ground.proofs.Minimum.{least-cong}
 use Rattle.ground.proofs.Remainders.{same-on, same-back, back-and-on}
 use Rattle.link.specs.Slots.{uses, after, meets, Uses, Meet}
-use Rattle.link.specs.Rows.{Crossing, one, two, second, startAt, start, movedOn, hits, either, free}
+use Rattle.link.specs.Rows.{Crossing, one, two, startAt, start, movedOn, hits, either, free}
 use Rattle.link.specs.Range.{GoodPlan}
 use Rattle.link.specs.declared.Link.{Link}
-use Rattle.link.proofs.Circle.{after-low, uses-true, uses-slot, meets-true, meets-slot}
+use Rattle.link.proofs.Meeting.{second-after}
+use Rattle.link.proofs.Circle.{Apart, apart-of, apart-met, after-low, uses-true, uses-slot, meets-true, meets-slot}
 
 module _ (p r : ℕ) (some : 0 < p) where
   -- r slots on from a
@@ -60,15 +61,22 @@ module _ (p r : ℕ) (some : 0 < p) where
         let y = m .0 + (p - r % p) in
         (y % p, uses-back l a y (used-back l (on a) (m .0) (m .1)), uses-back l b y (used-back l (on b) (m .0) (m .2)))
 
-    meets-moved : meets p l (on a) (on b) ≡ meets p l a b
+    pub meets-moved : meets p l (on a) (on b) ≡ meets p l a b
     meets-moved =
         same-test _ _ (λ e. meets-true p l a b some (meet-back (meets-slot p l (on a) (on b) e)))
         (λ e. meets-true p l (on a) (on b) some (meet-on (meets-slot p l a b e)))
 
-  start-on : (c : Crossing) (d a : ℕ) → startAt p c d (on a) ≡ on (startAt p c d a)
-  unfolding second after
+    pub apart-moved : a < p → b < p → l ≤ p → Apart p l a b → Apart p l (on a) (on b)
+    apart-moved ha hb hl w =
+        apart-of p l (on a) (on b) (after-low p some r a) (after-low p some r b) hl (meets-moved ∙ apart-met p l a b ha hb hl w)
+
+  pub after-on : (d a : ℕ) → after p d (on a) ≡ on (after p d a)
+  unfolding after
+  after-on d a = first-on a d ∙ sym (mod-add-mod (a + d) p r)
+
+  pub start-on : (c : Crossing) (d a : ℕ) → startAt p c d (on a) ≡ on (startAt p c d a)
   start-on one d a = refl
-  start-on two d a = first-on a d ∙ sym (mod-add-mod (a + d) p r)
+  start-on two d a = rw (second-after, second-after) (after-on d a)
 
   module _ (ds os : List ℕ) where
     moved-at : (i : ℕ) → i < length os → getD (movedOn p r os) i 0 ≡ on (getD os i 0)

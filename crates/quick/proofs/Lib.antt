@@ -5,4 +5,11 @@ pub mod Entries
 pub mod Sound
 pub mod Promises
 pub mod FirstFit
+pub mod Following
+pub mod Losing
+pub mod Enough
+pub mod LightLoads
+pub mod Full
+pub mod Sharp
 pub mod Worked
+pub mod WorkedLoads

@@ -1,7 +1,7 @@
 -- What the quick planners promise, of the planner over any step and count; proofs/FirstFit says it of First Fit by name.
 -- Assumes nothing.
 use mathlib.Core.Path.{_≡_, refl, sym, ap, _∙_}
-use mathlib.Core.Logic.{_↔_}
+use mathlib.Core.Logic.{_↔_, _⊎_, inl, inr}
 use mathlib.Core.List.{List}
 use Prim.Native.Nat.{ℕ, _≤_, _<_}
 use native.Mathlib.Omega.{arith}
@@ -64,6 +64,13 @@ module _ (k : Link) (ds old : List ℕ) (step count : ℕ) where
   answers e f g = goes-on (keeping refusing old) e (rw f g)
 
   module _ (r : Planned) (new : List ℕ) (e : gives (said r) new ≡ quick k ds old step count) where
+    right-plan : GoodTable k ds → length ds ≤ length old → (os : List ℕ) → Placed (k .period) (spanOf k) ds step count (length ds) os
+        → r ≡ Plan
+    unfolding outcome said
+    right-plan g h os w =
+        no-second k ds old step count r Plan new (onFront os old) e
+        (answers (sym (fine-room k ds (length old) g h)) (all-is (k .period) (spanOf k) ds step count os (length ds) w) refl) .0
+
     -- a plan is given exactly when each row has its least free one of the planner's offsets; they are clear, and stand in the list
     pub plan-is-right : (r ≡ Plan) ↔ GivenPlan k ds old step count new
     unfolding quick outcome said
@@ -88,12 +95,6 @@ module _ (k : Link) (ds old : List ℕ) (step count : ℕ) where
                   written = ap (λ (x : Answer). x .leaves) g;
                   clear = right-clear (k .period) (spanOf k) ds step count os (good .0 .period-low) w;
                 }
-
-        right-plan : GoodTable k ds → length ds ≤ length old → (os : List ℕ) → Placed (k .period) (spanOf k) ds step count (length ds) os
-            → r ≡ Plan
-        right-plan g h os w =
-            no-second k ds old step count r Plan new (onFront os old) e
-            (answers (sym (fine-room k ds (length old) g h)) (all-is (k .period) (spanOf k) ds step count os (length ds) w) refl) .0
 
     -- 13 at row j exactly when the rows before have their least free offsets and row j has none
     pub thirteen-exactly : (j : ℕ) → (r ≡ Refused noOffset j) ↔ NoOffset k ds old step count j
@@ -120,6 +121,14 @@ module _ (k : Link) (ds old : List ℕ) (step count : ℕ) where
             no-second k ds old step count r (Refused noOffset j) new old e
             (answers (sym (fine-room k ds (length old) (w .table) (w .room)))
             (stuck-is (k .period) (spanOf k) ds step count j (length ds) (w .row) (w .stuck)) refl) .0
+
+    -- a table in range, with room for its offsets, gets a plan or 13
+    pub plan-or-thirteen : GoodTable k ds → length ds ≤ length old → (r ≡ Plan) ⊎ ((j : ℕ) × (r ≡ Refused noOffset j))
+    plan-or-thirteen g h = go (says (k .period) (spanOf k) ds step count (length ds))
+      where
+        go : {o : Progress} → Says (k .period) (spanOf k) ds step count (length ds) o → (r ≡ Plan) ⊎ ((j : ℕ) × (r ≡ Refused noOffset j))
+        go (all os w) = inl (right-plan g h os w)
+        go (some-row j l s) = inr (j, thirteen-exactly j .1 (record { table = g; room = h; row = l; stuck = s }))
 
     -- row 0 is never refused
     pub row-0-has-one : 0 < count → r ≡ Refused noOffset 0 → ⊥

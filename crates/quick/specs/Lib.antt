@@ -3,3 +3,4 @@ pub mod Plan
 pub mod Answer
 pub mod Ways
 pub mod Right
+pub mod Loads

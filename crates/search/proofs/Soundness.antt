@@ -1,7 +1,7 @@
 -- Good steps keep the placed rows apart, so a whole build gives clear offsets. Assumes nothing.
 use mathlib.Core.Path.{_≡_, refl, sym, _∙_}
 use mathlib.Core.Logic.{⊎-elim}
-use mathlib.Core.Bool.{Bool, true, false, _||_, not}
+use mathlib.Core.Bool.{Bool, true, false, not}
 use mathlib.Core.List.{List}
 use Prim.Native.Nat.{ℕ, _<_, _≤_}
 use native.Mathlib.Omega.{arith}
@@ -10,18 +10,18 @@ use lib.ListN.{length, getD, take}
 use lib.Seq.{getD-take}
 use borrow.Author.Tests.{not-true, not-false, eqb-true, eqb-false}
 use Rattle.link.specs.Limits.{maxRows}
-use Rattle.link.specs.Rows.{Crossing, one, two, start, startAt, hits, either, Clear}
-use Rattle.ground.proofs.Bools.{or-none, lt-or-ge}
+use Rattle.link.specs.Rows.{Crossing, start, startAt, hits, Clear}
+use Rattle.ground.proofs.Bools.{lt-or-ge}
 use Rattle.ground.proofs.Counting.{count-none}
 use Rattle.link.specs.Slots.{Meet}
-use Rattle.link.proofs.Circle.{Apart}
+use Rattle.link.proofs.Circle.{Apart, apart-of}
 use Rattle.link.proofs.Clearness.{clear-in, clear-both}
 use Rattle.ground.proofs.Minimum.{none-has}
-use Rattle.link.proofs.Meeting.{start-low}
+use Rattle.link.proofs.Meeting.{start-low, none-hit}
 use Rattle.search.specs.Steps.{Step, rules, placed, puts, inTheWay, good, put, isStep}
 use Rattle.search.specs.Builds.{Build, done, onward, leads, begin}
 use Rattle.search.proofs.Listing.{steps-are}
-use Rattle.search.proofs.Moving.{apart-sym, apart-of, apart-slots, no-slot}
+use Rattle.search.proofs.Moving.{apart-sym, apart-slots, no-slot}
 use Rattle.search.proofs.Numbers.{names}
 use Rattle.search.proofs.States.{At, placed-low, puts-low, put-other, put-here, placed-other, put-at, begin-free}
 use Rattle.search.proofs.Completeness.{Plan}
@@ -34,19 +34,10 @@ Okay p l ds n s = (c : Crossing) (i j : ℕ) → i < n → j < n → (i ≡ j �
 module _ (p l : ℕ) (ds : List ℕ) (n : ℕ) (some : 0 < p) (lp : l ≤ p) where
   module _ (s : List ℕ) (k : Step) (gd : good p l ds n s k ≡ true) where
     pub not-met : (c : Crossing) (i : ℕ) → i < n → placed p s i ≡ true → hits p l ds s (getD ds (k .row) 0) (puts p l ds s k) c i ≡ false
-    unfolding good inTheWay either
-    not-met c i h e = go c
-      where
-        hit : Crossing → Bool
-        hit c = hits p l ds s (getD ds (k .row) 0) (puts p l ds s k) c i
-
-        free : (hits p l ds s (getD ds (k .row) 0) (puts p l ds s k) one i || hits p l ds s (getD ds (k .row) 0) (puts p l ds s k) two i)
-            ≡ false
-        free = rw e at (none-has (inTheWay p l ds s (getD ds (k .row) 0) (puts p l ds s k)) n (not-true _ gd) i h)
-
-        go : (c : Crossing) → hits p l ds s (getD ds (k .row) 0) (puts p l ds s k) c i ≡ false
-        go one = or-none (hit one) (hit two) free .0
-        go two = or-none (hit one) (hit two) free .1
+    unfolding good inTheWay
+    not-met c i h e =
+        none-hit (hits p l ds s (getD ds (k .row) 0) (puts p l ds s k)) c i
+        (rw e at (none-has (inTheWay p l ds s (getD ds (k .row) 0) (puts p l ds s k)) n (not-true _ gd) i h))
 
     -- the row that is put, and a placed one
     new-apart : (c : Crossing) (i : ℕ) → i < n → placed p s i ≡ true
