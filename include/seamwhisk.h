@@ -183,6 +183,8 @@ void seamwhisk_check_records(uint32_t period, uint32_t size, const seamwhisk_rec
  * meets no earlier row in either crossing.
  * Judges 5, 6, 8, 7 (least row), 11 if room is below rows, then 13 with the first row that has no
  * such offset. 13 says that this planner gave up, not that the table has no plan.
+ * It never comes where P is above (3*rows-2)*T - rows, so never where P divided by T, rounded down,
+ * is at least 3*rows-2.
  * Otherwise number is 0 and offsets[0] to offsets[rows-1] are the plan.
  * It tries offset after offset, so its time grows with the period: with 64 rows and a period of
  * 1,000,000 a plan takes some 30 milliseconds, a refusal up to a quarter of a second. Meta-Offset
@@ -191,7 +193,8 @@ void seamwhisk_first_fit(uint32_t period, uint32_t size, const uint32_t *delays,
                          uint32_t *offsets, size_t room, seamwhisk_planned *answer);
 
 /* Meta-Offset: as First Fit, but looks at the offsets 0, T, 2T, .., (m-1)T only, where m is P
- * divided by T, rounded down. Same judging, same buffers. */
+ * divided by T, rounded down. Same judging, same buffers. 13 never comes where m is at least
+ * 3*rows-2. */
 void seamwhisk_meta_offset(uint32_t period, uint32_t size, const uint32_t *delays, size_t rows,
                            uint32_t *offsets, size_t room, seamwhisk_planned *answer);
 

@@ -1,12 +1,14 @@
 //! Hand-picked cases: every limit at, just below and just above, buffers too short, exact and
 //! too long, budgets around the true count, and every two faults at once.
 
+use crate::bad::{shuffled, spread, turn_crossing_2, Planner};
 use crate::brute::text_of;
 use crate::cases::{Case, Lent};
 use crate::checker::Record;
 use crate::exact::{ceiling, exact};
 use crate::link::Table;
 use crate::planfile::plan_file;
+use crate::random::Random;
 
 const MOST: u64 = u32::MAX as u64;
 const BIG_DELAY: u64 = 1 << 24;
@@ -28,6 +30,8 @@ pub fn all() -> Vec<Case> {
         long_files,
         short_tags,
         left_over_files,
+        light_loads,
+        longest_light_loads,
     ] {
         cases.extend(group());
     }
@@ -363,6 +367,51 @@ fn left_over_files() -> Vec<Case> {
         }
         let file = file[..file.len() - 1].to_vec();
         cases.push(Case::ReadPlan { file, delays: lent, offsets: lent });
+    }
+    cases
+}
+
+/// Rows spread in random order, crossing 2 turned at random.
+fn spread_case(random: &mut Random, planner: Planner, link: (u64, u64), rows: u64) -> Case {
+    let order = shuffled(random, rows - 1);
+    let mut table = spread(planner, link.0, link.1, &order);
+    turn_crossing_2(&mut table, random.below(link.0));
+    planner.case(table, Lent::new(rows as usize, 300))
+}
+
+/// Around the bound of request Three's promise, what spread rows take away, and just light.
+fn light_loads() -> Vec<Case> {
+    let mut random = Random::new(3);
+    let mut cases = Vec::new();
+    for planner in [Planner::FirstFit, Planner::MetaOffset] {
+        for (rows, size) in [(2, 1), (2, 7), (3, 2), (5, 4), (8, 3), (16, 5), (33, 2), (64, 1)] {
+            for count in planner.around_the_bound(rows, size) {
+                let periods: Vec<u64> = planner.periods(count, size).collect();
+                let link = (random.pick(&periods), size);
+                cases.push(spread_case(&mut random, planner, link, rows));
+            }
+        }
+    }
+    cases
+}
+
+/// 64 rows and long periods. Meta-Offset: 190 = 3 * 64 - 2 multiples with and without a remainder,
+/// and 189. First Fit: P = 190T - 64, which gets 13, and one more, P = 190T, 63(4T-2) one below P;
+/// 16 rows with the largest T for which 46T - 16 is below a million, there and one more.
+fn longest_light_loads() -> Vec<Case> {
+    let mut random = Random::new(4);
+    let meta = [(1_000_000, 5263), (999_970, 5263), (999_969, 5263), (994_707, 5263)];
+    let first = [(12_096, 64), (12_097, 64), (12_160, 64), (16_003, 64)];
+    let first_of_16 = [(999_978, 21_739), (999_979, 21_739)];
+    let mut cases = Vec::new();
+    for link in meta {
+        cases.push(spread_case(&mut random, Planner::MetaOffset, link, 64));
+    }
+    for link in first {
+        cases.push(spread_case(&mut random, Planner::FirstFit, link, 64));
+    }
+    for link in first_of_16 {
+        cases.push(spread_case(&mut random, Planner::FirstFit, link, 16));
     }
     cases
 }

@@ -1,5 +1,6 @@
 //! The oracle: an independent reference program for the planner of shared fibre links.
 
+mod bad;
 mod brute;
 mod cases;
 mod checker;
@@ -7,6 +8,7 @@ mod damage;
 mod exact;
 mod limits;
 mod link;
+mod loads;
 mod mix;
 mod planfile;
 mod program;

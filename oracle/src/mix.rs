@@ -1,5 +1,6 @@
 //! Random cases of every kind: short and long, valid and damaged, dense and light.
 
+use crate::bad::{near_the_bound, Planner};
 use crate::brute::text_of;
 use crate::cases::{Case, Lent};
 use crate::checker::Record;
@@ -16,8 +17,8 @@ pub const MOST_TESTS: u64 = 20_000;
 pub fn case(random: &mut Random) -> Case {
     match random.below(200) {
         0..=26 => check_case(random),
-        27..=45 => first_fit_case(random),
-        46..=62 => meta_offset_case(random),
+        27..=45 => quick_case(random, Planner::FirstFit),
+        46..=62 => quick_case(random, Planner::MetaOffset),
         63..=92 => exact_case(random),
         93..=118 => read_table_case(random),
         119..=136 => write_plan_case(random),
@@ -83,18 +84,16 @@ pub fn turned(table: &Table, offsets: &[u64], turn: u64) -> Vec<u64> {
     offsets.iter().map(|offset| (offset + turn) % table.period).collect()
 }
 
-fn first_fit_case(random: &mut Random) -> Case {
+/// A quarter of the tables are near the bound of request Three. What these take is drawn apart too.
+fn quick_case(random: &mut Random, planner: Planner) -> Case {
+    let mut own = random.branch();
     let mut table = table(random);
+    if own.chance(25) {
+        table = near_the_bound(&mut own, planner);
+    }
     spoil(random, &mut table, &mut vec![0], 20);
     let lent = lent(random, table.rows());
-    Case::FirstFit { table, lent }
-}
-
-fn meta_offset_case(random: &mut Random) -> Case {
-    let mut table = table(random);
-    spoil(random, &mut table, &mut vec![0], 20);
-    let lent = lent(random, table.rows());
-    Case::MetaOffset { table, lent }
+    planner.case(table, lent)
 }
 
 fn exact_case(random: &mut Random) -> Case {

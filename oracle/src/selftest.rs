@@ -6,6 +6,7 @@ use crate::checker::{check, check_records, Record, Verdict};
 use crate::exact::{ceiling, exact};
 use crate::limits;
 use crate::link::{meet, meet_by_differences, meet_by_slots, Refusal, Table};
+use crate::loads;
 use crate::mix::{self, turn_to_the_end, turned};
 use crate::planfile::{read_plan, seven_bit_groups, write_plan, TAG};
 use crate::program;
@@ -19,10 +20,16 @@ use crate::vectors;
 /// A group gives the number of comparisons made, or says what differs.
 type Group = fn() -> Result<u64, String>;
 
-const GROUPS: [(&str, Group); 27] = [
+const GROUPS: [(&str, Group); 33] = [
     ("meeting: slot sets against differences", meeting),
     ("checker: the least of all collisions", checker),
     ("quick planners: the least of all free offsets", quick_planners),
+    ("light loads: which sentence follows from which", loads::sentences),
+    ("light loads: what one earlier row takes away", loads::one_earlier_row),
+    ("light loads: all small tables around the bound", loads::all_small_tables),
+    ("light loads: rows spread, two to 64", loads::spread_tables),
+    ("light loads: delays picked greedily", loads::greedy_tables),
+    ("light loads: delays by local search", loads::climbed_tables),
     ("exact: all step sequences listed and sorted", exact_by_listing),
     ("exact: longer builds, random tables", exact_by_listing_longer),
     ("exact: none against all offsets of all rows", exact_none),
@@ -59,7 +66,7 @@ pub fn run() -> Result<(), String> {
 }
 
 /// Both sides must be the same.
-fn same<T: PartialEq + std::fmt::Debug>(
+pub fn same<T: PartialEq + std::fmt::Debug>(
     what: impl std::fmt::Debug,
     got: T,
     expected: T,
@@ -146,7 +153,7 @@ fn checker() -> Result<u64, String> {
 }
 
 /// Both quick planners on a good table.
-fn quick_both(table: &Table) -> Result<(), String> {
+pub fn quick_both(table: &Table) -> Result<(), String> {
     let refused = |row: usize| Refusal { number: 13, place: row as u64 };
     let mut list = vec![0; table.rows()];
     let got = first_fit(table, &mut list).map(|()| list.clone());

@@ -1,14 +1,29 @@
 //! How often each kind of case ends in each refusal or verdict.
 
+use crate::bad::Planner;
 use crate::cases::{Case, KINDS};
 use crate::link::{Table, CROSSINGS};
 use std::collections::BTreeMap;
 
+/// The outcomes of a quick planner; at the bound of request Three's promise and above there is no 13.
+const QUICK: &[&str] = &[
+    "plan",
+    "plan at bound",
+    "plan below bound",
+    "5",
+    "6",
+    "8",
+    "7",
+    "11",
+    "13",
+    "13 below bound",
+];
+
 /// The outcomes that each kind can have; the kinds are those of `KINDS`.
 const POSSIBLE: [&[&str]; 11] = [
     &["clear", "crossing 1", "crossing 2", "5", "6", "8", "7", "11", "17"],
-    &["plan", "5", "6", "8", "7", "11", "13"],
-    &["plan", "5", "6", "8", "7", "11", "13"],
+    QUICK,
+    QUICK,
     &["plan", "5", "6", "8", "7", "11", "12", "14", "15"],
     &["read", "1", "2", "3", "4", "5", "6", "7", "8", "9", "10", "11"],
     &["written", "5", "6", "8", "7", "11 offsets", "17", "18", "11 output"],
@@ -55,6 +70,12 @@ fn outcome(case: &Case) -> String {
         Case::ReadPlan { .. } if answer[0] == 19 => {
             if answer[1] == 0 { "19 tag" } else { "19 number" }.to_string()
         }
+        Case::FirstFit { table, .. } if [0, 13].contains(&answer[0]) => {
+            quick_outcome(Planner::FirstFit, table, answer[0])
+        }
+        Case::MetaOffset { table, .. } if [0, 13].contains(&answer[0]) => {
+            quick_outcome(Planner::MetaOffset, table, answer[0])
+        }
         _ if answer[0] > 0 => answer[0].to_string(),
         Case::Check { .. } | Case::CheckRecords { .. } => match answer[4] {
             0 => "clear".to_string(),
@@ -65,6 +86,20 @@ fn outcome(case: &Case) -> String {
         Case::Report { table, offsets } => report_outcome(table, offsets).to_string(),
         Case::Ceiling { .. } => "0".to_string(),
         _ => "plan".to_string(),
+    }
+}
+
+/// A plan or a 13, and whether the planner looks at just as many offsets as the promise asks for or
+/// at one less.
+fn quick_outcome(planner: Planner, table: &Table, number: u64) -> String {
+    let name = if number == 0 { "plan" } else { "13" };
+    let count = planner.looks_at(table.period, table.size);
+    let enough = planner.enough(table.rows() as u64, table.size);
+    match number {
+        _ if count == enough => format!("{name} at bound"),
+        _ if count + 1 == enough => format!("{name} below bound"),
+        13 if count > enough => format!("{name} above bound"),
+        _ => name.to_string(),
     }
 }
 

@@ -1,4 +1,4 @@
-//! Vectors: every worked table of document 01, requests One and Two of document 02, and every
+//! Vectors: every worked table of document 01, requests One to Three of document 02, and every
 //! example of their decided readings, each with the answer written down by hand.
 
 use crate::cases::{counted, Case, Lent};
@@ -17,50 +17,55 @@ const FIRST: &[u64] = &[0, 3, 7];
 const FIRST_TEXT: &str = "pma 1\n10 2\n0\n3\n7\nend 3\n";
 const FIRST_FILE: &[u8] = &[10, 2, 3, 0, 0, 3, 2, 7, 5];
 
+const GROUPS: &[fn() -> Vec<Vector>] = &[
+    worked_planners,
+    worked_others,
+    errors_to_avoid,
+    general,
+    general_orders,
+    crossings,
+    step_order,
+    exact_planner,
+    checker_and_report,
+    text_ends,
+    text_line_two,
+    text_end_line,
+    text_numbers,
+    text_limits,
+    texts_with_four_lent,
+    texts_of_64_rows,
+    plan_file_numbers,
+    plan_file_orders,
+    files_with_four_lent,
+    files_accepted,
+    writer,
+    writer_orders,
+    longest_file,
+    program,
+    tags_wrong_or_cut,
+    numbers_cut_or_too_long,
+    numbers_with_needless_groups,
+    form_before_range,
+    range_before_the_next_form,
+    bytes_left_over,
+    every_fault_at_every_number,
+    file_of_every_number,
+    runs_at_both_ends,
+    runs_at_one_end,
+    nothing_free,
+    crossings_that_differ,
+    stretches_at_limits,
+    multiples_all_taken,
+    multiples_enough,
+    offsets_all_taken,
+    offsets_enough,
+    light_loads_of_64_rows,
+    light_loads_of_12_rows,
+    tables_of_the_manual,
+];
+
 pub fn all() -> Vec<Vector> {
-    let mut vectors = Vec::new();
-    for group in [
-        worked_planners,
-        worked_others,
-        errors_to_avoid,
-        general,
-        general_orders,
-        crossings,
-        step_order,
-        exact_planner,
-        checker_and_report,
-        text_ends,
-        text_line_two,
-        text_end_line,
-        text_numbers,
-        text_limits,
-        texts_with_four_lent,
-        texts_of_64_rows,
-        plan_file_numbers,
-        plan_file_orders,
-        files_with_four_lent,
-        files_accepted,
-        writer,
-        writer_orders,
-        longest_file,
-        program,
-        tags_wrong_or_cut,
-        numbers_cut_or_too_long,
-        numbers_with_needless_groups,
-        form_before_range,
-        range_before_the_next_form,
-        bytes_left_over,
-        every_fault_at_every_number,
-        file_of_every_number,
-        runs_at_both_ends,
-        runs_at_one_end,
-        nothing_free,
-        crossings_that_differ,
-        stretches_at_limits,
-    ] {
-        vectors.extend(group());
-    }
-    vectors
+    GROUPS.iter().flat_map(|group| group()).collect()
 }
 
 // How the cases are made. A lent list of m elements starts at 90, lent bytes at 200.
@@ -1043,5 +1048,176 @@ fn stretches_at_limits() -> Vec<Vector> {
         reports("I1 64 rows", report(129, 1, &[1; 64], &odd), [65, 64, 2], [65, 64, 2]),
         // (0) (2) .. (126); starts 2 4 .. 126 0: (1) (3) .. (127)
         reports("I1 64 rows", report(128, 1, &[1; 64], &odd), [64, 64, 1], [64, 64, 1]),
+    ]
+}
+
+// Document 02, request Three, and reading I3. A comment has what each earlier row takes from the
+// last one: in crossing 1 / in crossing 2.
+
+/// A quick planner, by how its cases are made here.
+type Call = fn(u64, u64, &[u64], usize) -> Case;
+
+/// 13 at the last row, with a list that stays as it was.
+fn last_refused(name: &'static str, call: Call, link: (u64, u64), delays: &[u64]) -> Vector {
+    let rows = delays.len();
+    let case = call(link.0, link.1, delays, rows);
+    is(name, case, &[&[13, rows as u64 - 1], &list(rows).numbers()[..]].concat())
+}
+
+fn planned(
+    name: &'static str,
+    call: Call,
+    (period, size): (u64, u64),
+    delays: &[u64],
+    offsets: &[u64],
+) -> Vector {
+    is(name, call(period, size, delays, delays.len()), &[&[0, 0], offsets].concat())
+}
+
+/// 3n-3 multiples, all taken; with size 1 a row takes only one in crossing 2, and 2n-2 are.
+fn multiples_all_taken() -> Vec<Vector> {
+    let refused = |name, link, delays: &[u64]| last_refused(name, meta_offset, link, delays);
+    vec![
+        // 0 / 2 4
+        refused("I3 m = 3", (6, 2), &[0, 3]),
+        refused("I3 m = 3, rest 1", (7, 2), &[0, 4]),
+        // 0 / 3 6
+        refused("I3 m = 3", (9, 3), &[0, 5]),
+        refused("I3 m = 3, rest 2", (11, 3), &[0, 7]),
+        // 0 / 4 6; 2 / 8 10
+        refused("I3 m = 6", (12, 2), &[0, 2, 7]),
+        refused("I3 m = 6, rest 1", (13, 2), &[0, 2, 8]),
+        // 0 / 15 18; 3 / 21 24; 6 / 9 12
+        refused("I3 m = 9, rest 1", (28, 3), &[9, 12, 25, 20]),
+        // 0 / 24 30; 18 / 36 42; 6 / 60 66; 12 / 48 54
+        refused("I3 m = 12", (72, 6), &[33, 26, 60, 44, 5]),
+        // 0 / 1
+        refused("I3 size 1, m = 2", (2, 1), &[0, 1]),
+        // 0 / 2; 1 / 3
+        refused("I3 size 1, m = 4", (4, 1), &[0, 0, 2]),
+    ]
+}
+
+/// 3n-2 multiples: "never gives 13"
+fn multiples_enough() -> Vec<Vector> {
+    let plan = |name, link, delays: &[u64], offsets: &[u64]| {
+        planned(name, meta_offset, link, delays, offsets)
+    };
+    vec![
+        plan("I3 n = 1, m = 1", (5, 5), &[7], &[0]),
+        plan("I3 n = 1, m = 1, rest 4", (9, 5), &[7], &[0]),
+        // 0 / 4 6
+        plan("I3 m = 4", (8, 2), &[0, 3], &[0, 2]),
+        // 0 / 2 4
+        plan("I3 m = 4, the last is left", (8, 2), &[0, 5], &[0, 6]),
+        plan("I3 m = 4, the last is left", (9, 2), &[0, 6], &[0, 6]),
+        plan("I3 m = 4, the last is left", (14, 3), &[0, 9], &[0, 9]),
+        // 0 / 4 6; 2 / 8 10
+        plan("I3 m = 7, the last is left", (14, 2), &[0, 2, 9], &[0, 2, 12]),
+        // 0 / 18 21; 3 / 24 27; 6 / 9 12
+        plan("I3 m = 10", (30, 3), &[9, 12, 25, 20], &[0, 3, 6, 15]),
+        // 0 / 24 30; 18 / 36 42; 6 / 60 66; 12 / 48 54
+        plan("I3 m = 13", (78, 6), &[33, 26, 60, 44, 5], &[0, 18, 6, 12, 72]),
+        plan("I3 m = 13, rest 5", (83, 6), &[33, 26, 60, 44, 5], &[0, 18, 6, 12, 72]),
+        // 0 / 2; 1 / 3
+        plan("I3 size 1, m = 2n-1", (5, 1), &[0, 0, 3], &[0, 1, 4]),
+    ]
+}
+
+/// Where First Fit refuses: up to P = (3n-2)T - n.
+fn offsets_all_taken() -> Vec<Vector> {
+    let refused = |name, link, delays: &[u64]| last_refused(name, first_fit, link, delays);
+    vec![
+        // 0 / 1
+        refused("I3 P = 4T-2", (2, 1), &[0, 1]),
+        // 5 0 1 / 2 3 4
+        refused("I3 P = 4T-2", (6, 2), &[0, 3]),
+        // 8 9 0 1 2 / 3 4 5 6 7
+        refused("I3 P = 4T-2", (10, 3), &[0, 5]),
+        // 0 / 2; 1 / 3
+        refused("I3 P = 7T-3", (4, 1), &[0, 0, 2]),
+        // 10 0 1 / 4 5 6; 1 2 3 / 7 8 9: one is taken twice, always
+        refused("I3 P = 7T-3", (11, 2), &[0, 1, 6]),
+        // 15 0 1 / 6 7 8; 1 2 3 / 9 10 11; 3 4 5 / 12 13 14
+        refused("I3 P = 10T-4", (16, 2), &[0, 1, 2, 9]),
+    ]
+}
+
+/// First Fit "never gives 13 when P is above (3n-2)T - n"
+fn offsets_enough() -> Vec<Vector> {
+    let plan = |name, link, delays: &[u64], offsets: &[u64]| {
+        planned(name, first_fit, link, delays, offsets)
+    };
+    vec![
+        plan("I3 n = 1", (1, 1), &[7], &[0]),
+        // 0 / 2
+        plan("I3 P = 4T-1", (3, 1), &[0, 1], &[0, 1]),
+        // 0 / 1
+        plan("I3 P = 4T-1, the last is left", (3, 1), &[0, 2], &[0, 2]),
+        // 6 0 1 / 2 3 4
+        plan("I3 P = 4T-1", (7, 2), &[0, 4], &[0, 5]),
+        // 9 10 0 1 2 / 3 4 5 6 7
+        plan("I3 P = 4T-1", (11, 3), &[0, 6], &[0, 8]),
+        // 0 / 2; 1 / 3
+        plan("I3 P = 7T-2", (5, 1), &[0, 0, 3], &[0, 1, 4]),
+        // 11 0 1 / 4 5 6; 1 2 3 / 7 8 9
+        plan("I3 P = 7T-2", (12, 2), &[0, 1, 7], &[0, 2, 10]),
+        // 11 0 1 / 5 6 7; 1 2 3 / 8 9 10
+        plan("I3 P = 7T-2", (12, 2), &[0, 1, 6], &[0, 2, 4]),
+        // 12 0 1 / 4 5 6; 1 2 3 / 7 8 9
+        plan("I3 P = 7T-1", (13, 2), &[0, 1, 8], &[0, 2, 10]),
+        // 13 0 1 / 4 5 6; 1 2 3 / 7 8 9
+        plan("I3 P = 7T", (14, 2), &[0, 1, 9], &[0, 2, 10]),
+        // 14 0 1 / 4 5 6; 1 2 3 / 7 8 9
+        plan("I3 P = 8T-1", (15, 2), &[0, 1, 10], &[0, 2, 10]),
+    ]
+}
+
+/// Rows at 0 2 .. 124 and, for size 1, at 0 1 .. 62; in crossing 2 one starts two messages, or for
+/// size 1 one, behind the other.
+fn light_loads_of_64_rows() -> Vec<Vector> {
+    let even: Vec<u64> = (0..63).map(|row| 2 * row).collect();
+    let all: Vec<u64> = (0..63).collect();
+    let then = |front: &[u64], last: u64| [front, &[last]].concat();
+    let plan = then(&even, 378);
+    vec![
+        last_refused("I3 64 rows, m = 189", meta_offset, (378, 2), &then(&even, 251)),
+        last_refused("I3 64 rows, m = 189", meta_offset, (379, 2), &then(&even, 252)),
+        planned("I3 64 rows, m = 190", meta_offset, (380, 2), &then(&even, 253), &plan),
+        planned("I3 64 rows, m = 190", meta_offset, (381, 2), &then(&even, 254), &plan),
+        last_refused("I3 64 rows, P = 126", first_fit, (126, 1), &then(&[0; 63], 63)),
+        planned("I3 64, P = 127", first_fit, (127, 1), &then(&[0; 63], 64), &then(&all, 126)),
+        // 190T - 64 and one more, 63(4T-2) + 1, 190T; in crossing 2 the rows start at 0 3 .. 186
+        last_refused("I3 64 rows, P = 316", first_fit, (316, 2), &then(&all, 189)),
+        planned("I3 64, P = 317", first_fit, (317, 2), &then(&all, 190), &then(&even, 315)),
+        planned("I3 64, P = 379", first_fit, (379, 2), &then(&all, 252), &then(&even, 315)),
+        planned("I3 64, P = 380", first_fit, (380, 2), &then(&all, 253), &then(&even, 315)),
+    ]
+}
+
+/// Size 29, P = 34T - 12 and one more, and 34T. Rows at 0 29 .. 290, in crossing 2 at 0 57 .. 570.
+fn light_loads_of_12_rows() -> Vec<Vector> {
+    let delays = |last: u64| [0, 28, 56, 84, 112, 140, 168, 196, 224, 252, 280, last];
+    let plan = [0, 29, 58, 87, 116, 145, 174, 203, 232, 261, 290, 946];
+    vec![
+        last_refused("I3 12 rows, P = 974", first_fit, (974, 29), &delays(627)),
+        planned("I3 12 rows, P = 975", first_fit, (975, 29), &delays(628), &plan),
+        planned("I3 12 rows, P = 986", first_fit, (986, 29), &delays(639), &plan),
+    ]
+}
+
+/// Twelve rows, period 1000: 34 = 3n-2 multiples with size 29, 33 with size 30. The plans come from
+/// a separate program with slot sets.
+fn tables_of_the_manual() -> Vec<Vector> {
+    let light = [120, 340, 95, 610, 47, 883, 256, 731, 508, 19, 662, 404];
+    let first = [0, 29, 58, 87, 135, 164, 193, 222, 251, 280, 320, 384];
+    let meta = [0, 29, 58, 87, 145, 116, 174, 203, 232, 261, 377, 406];
+    let bad = [1, 31, 61, 91, 121, 151, 181, 211, 241, 271, 301, 670];
+    let not_promised = [0, 30, 60, 90, 120, 150, 180, 210, 240, 270, 300, 361];
+    vec![
+        planned("I3 manual, size 29", first_fit, (1000, 29), &light, &first),
+        planned("I3 manual, size 29", meta_offset, (1000, 29), &light, &meta),
+        last_refused("I3 manual, size 30", meta_offset, (1000, 30), &bad),
+        planned("I3 manual, size 30", first_fit, (1000, 30), &bad, &not_promised),
     ]
 }

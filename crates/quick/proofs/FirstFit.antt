@@ -4,7 +4,7 @@ use mathlib.Core.Bool.{false}
 use mathlib.Core.List.{List}
 use Prim.Native.Nat.{ℕ, _*_, _<_}
 use native.Mathlib.Omega.{arith}
-use native.Mathlib.Nat.{mul-one}
+use native.Mathlib.Nat.{mul-one, div-one}
 use lib.ListN.{length, getD}
 use Rattle.ground.specs.Lent.{onFront}
 use Rattle.ground.specs.Protocol.{gives}
@@ -13,7 +13,7 @@ use Rattle.link.specs.Rows.{spanOf, free}
 use Rattle.link.specs.declared.Link.{Link}
 use Rattle.quick.specs.Plan.{freeAt}
 use Rattle.quick.specs.Right.{LeastFree, Placed, LeastFreeOffset}
-use Rattle.quick.specs.Answer.{said, firstFit}
+use Rattle.quick.specs.Answer.{said, firstFit, metaOffset}
 use Rattle.quick.specs.declared.Planned.{Planned}
 use Rattle.quick.specs.declared.Planned.the-variants.{Plan, Refused}
 use Rattle.quick.proofs.Promises.{plan-is-right, thirteen-exactly}
@@ -50,3 +50,7 @@ module _ (k : Link) (ds old : List ℕ) (r : Planned) (new : List ℕ) (e : give
   first-fit-thirteen j c =
       let w = thirteen-exactly k ds old 1 (k .period) r new e j .0 c .stuck in
       (w .offsets, each-least (k .period) (spanOf k) ds (w .offsets) j (w .before), λ a h. rw (mul-one a) at (w .none a h))
+
+-- with messages of one slot both planners look at the same offsets
+pub one-slot-same : (k : Link) (ds old : List ℕ) → spanOf k ≡ 1 → metaOffset k ds old ≡ firstFit k ds old
+one-slot-same k ds old h = rw (h, div-one)

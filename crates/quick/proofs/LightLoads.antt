@@ -58,9 +58,9 @@ module _ (k : Link) (ds old : List ℕ) (r : Planned) (new : List ℕ) where
     simple-is-first-fitted h g = first-fit-is-planned (simple-for-first-fit k ds g h) g
 
 -- each row of such a table has its least free multiple
-pub light-has-one : (k : Link) (ds : List ℕ) → GoodTable k ds → LightLoad k ds
+pub light-has-a-plan : (k : Link) (ds : List ℕ) → GoodTable k ds → LightLoad k ds
     → (os : List ℕ) × Placed (k .period) (spanOf k) ds (spanOf k) (k .period / spanOf k) (length ds) os
-light-has-one k ds g h = go (says (k .period) (spanOf k) ds (spanOf k) (k .period / spanOf k) (length ds))
+light-has-a-plan k ds g h = go (says (k .period) (spanOf k) ds (spanOf k) (k .period / spanOf k) (length ds))
   where
     go : {o : Progress} → Says (k .period) (spanOf k) ds (spanOf k) (k .period / spanOf k) (length ds) o
         → (os : List ℕ) × Placed (k .period) (spanOf k) ds (spanOf k) (k .period / spanOf k) (length ds) os

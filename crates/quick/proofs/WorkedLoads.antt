@@ -1,5 +1,5 @@
 -- Light loads on tables: the manual's site of 12 heads, and tables just below the bounds that get 13. Assumes nothing.
-use mathlib.Core.Path.{_≡_, refl}
+use mathlib.Core.Path.{_≡_, refl, _∙_}
 use mathlib.Core.Logic.{_⊎_}
 use mathlib.Core.List.{List, [], _∷_}
 use Prim.Native.Nat.{ℕ, _≤_}
@@ -18,6 +18,7 @@ use Rattle.quick.specs.Loads.{fullForMetaOffset, fullForFirstFit}
 use Rattle.quick.specs.Plan.{freeAt, place, placed}
 use Rattle.quick.specs.declared.Planned.{Planned}
 use Rattle.quick.specs.declared.Planned.the-variants.{Plan, Refused}
+use Rattle.quick.proofs.FirstFit.{one-slot-same}
 use Rattle.quick.proofs.LightLoads.{light-never-thirteen, light-is-planned, third-is-planned}
 use Rattle.quick.proofs.LightLoads.{first-fit-never-thirteen, first-fit-is-planned, light-is-first-fitted, simple-is-first-fitted}
 use Rattle.quick.proofs.Promises.{plan-or-thirteen}
@@ -90,6 +91,13 @@ module _ (r : Planned) (new : List ℕ) where
 
   pub eleven-offsets : gives (said r) new ≡ firstFit (link 11 2) (fullForFirstFit 11 2 2) old → r ≡ Refused 13 2
   eleven-offsets = first-fit-sharp 11 2 2 (omega arith) (omega arith) (omega arith) (omega arith) refl old (omega arith) r new
+
+  -- four rows of one slot with seven offsets: Meta-Offset goes by First Fit's number, 2n-2, which is 6
+  pub seven-one-slot-offsets : (a b c d : ℕ) (list : List ℕ) → gives (said r) new ≡ metaOffset (link 7 1) (a ∷ b ∷ c ∷ d ∷ []) list
+      → (j : ℕ) → r ≡ Refused 13 j → ⊥
+  seven-one-slot-offsets a b c d list e =
+      let ds = a ∷ b ∷ c ∷ d ∷ [] in
+      first-fit-never-thirteen (link 7 1) ds list r new (e ∙ one-slot-same (link 7 1) ds list refl) (omega arith)
 
 -- these two tables by their numbers
 twelve-delays : fullForMetaOffset 1000 30 11 ≡ 1 ∷ 31 ∷ 61 ∷ 91 ∷ 121 ∷ 151 ∷ 181 ∷ 211 ∷ 241 ∷ 271 ∷ 301 ∷ 670 ∷ []

@@ -16,7 +16,7 @@ use Rattle.quick.specs.Ways.{Ways}
 use Rattle.quick.specs.declared.Planned.the-variants.{Plan}
 use Rattle.quick.proofs.Candidates.{next-low}
 use Rattle.quick.proofs.Entries.{each-offset, multiples}
-use Rattle.quick.proofs.LightLoads.{light-has-one}
+use Rattle.quick.proofs.LightLoads.{light-has-a-plan}
 use Rattle.quick.proofs.Promises.{plan-is-right, right-clear}
 use Rattle.quick.proofs.Worked.{link, ds₁, old, plan₁, fits, right, multiples as by-multiples}
 use Rattle.search.specs.Answer.{Answers, ClearChoice}
@@ -56,7 +56,7 @@ module _ (k : Link) (ds old new : List ℕ) where
 pub light-never-none : (k : Link) (ds : List ℕ) → GoodTable k ds → LightLoad k ds
     → (budget : ℕ) (list : List ℕ) (t : ℕ) (left : List ℕ) → Answers k ds budget list (None t) left → ⊥
 light-never-none k ds g h =
-    let w = light-has-one k ds g h in
+    let w = light-has-a-plan k ds g h in
     never-none k ds g (spanOf k) (k .period / spanOf k) (multiples k ds g) (w .0) (w .1)
 
 -- used on document 01's tables: "none" is never said of 5, 2, (0 4), where First Fit has a plan, nor of the first table, where
