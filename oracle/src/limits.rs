@@ -1,13 +1,14 @@
 //! Hand-picked cases: every limit at, just below and just above, buffers too short, exact and
 //! too long, budgets around the true count, and every two faults at once.
 
-use crate::bad::{shuffled, spread, turn_crossing_2, Planner};
+use crate::bad::{shuffled, spread, turn_crossing_2};
 use crate::brute::text_of;
 use crate::cases::{Case, Lent};
 use crate::checker::Record;
 use crate::exact::{ceiling, exact};
 use crate::link::Table;
 use crate::planfile::plan_file;
+use crate::planner::Planner;
 use crate::random::Random;
 
 const MOST: u64 = u32::MAX as u64;

@@ -1,8 +1,9 @@
 //! Light loads: the groups of the self-test for request Three's promise.
 
-use crate::bad::{climb, greedy, shuffled, spread, turn_crossing_2, Greed, Planner, Shape};
+use crate::bad::{climb, greedy, shuffled, spread, turn_crossing_2, Greed, Shape};
 use crate::brute::{all_lists, slot_set};
 use crate::link::{Refusal, Table};
+use crate::planner::Planner;
 use crate::random::Random;
 use crate::selftest::{quick_both, same};
 
@@ -149,8 +150,9 @@ pub fn spread_tables() -> Result<u64, String> {
     Ok(count)
 }
 
-/// A way to choose a bad table with these numbers.
-type Choice = fn(&mut Random, Planner, Shape) -> Table;
+/// A way to choose a bad table with these numbers, and up to how many rows it is sure to find one
+/// that is refused, where there is one.
+type Choice = (fn(&mut Random, Planner, Shape) -> Table, u64);
 
 fn least_of_the_best(_: &mut Random, planner: Planner, shape: Shape) -> Table {
     greedy(planner, shape, Greed::ForTheNext, || (0..shape.0).collect())
@@ -175,19 +177,19 @@ fn climbed(random: &mut Random, planner: Planner, (period, size, rows): Shape) -
 }
 
 /// One table of each choice with so many offsets looked at, each with a random remainder of P by T:
-/// how many are refused? Short periods are compared with brute force as well.
+/// which are refused? Short periods are compared with brute force as well.
 fn refusals(
     random: &mut Random,
     planner: Planner,
     (count, size, rows): Shape,
     choices: &[Choice],
-) -> Result<u64, String> {
-    let mut refusals = 0;
-    for choice in choices {
+) -> Result<Vec<bool>, String> {
+    let mut refusals = Vec::new();
+    for (choice, _) in choices {
         let periods: Vec<u64> = planner.periods(count, size).collect();
         let period = random.pick(&periods);
         let table = choice(random, planner, (period, size, rows));
-        refusals += u64::from(refused(planner, &table)?);
+        refusals.push(refused(planner, &table)?);
         if table.period <= 40 {
             quick_both(&table)?;
         }
@@ -196,7 +198,8 @@ fn refusals(
 }
 
 /// None of the chosen tables is refused from one more than `most_taken` up to the promise's bound
-/// (where it is sharp these are one), some at `most_taken` itself: else the choices show nothing.
+/// (where it is sharp these are one). At `most_taken` itself one is at least, and all those of the
+/// choices that are sure with so many rows: else the choices show nothing.
 fn around(
     random: &mut Random,
     planner: Planner,
@@ -206,18 +209,25 @@ fn around(
     let (most, enough) = (planner.most_taken(rows, size), planner.enough(rows, size));
     for count in most..=enough {
         let found = refusals(random, planner, (count, size, rows), choices)?;
-        same((planner, "refused", count, size, rows), found > 0, count == most)?;
+        let what = (planner, "refused", count, size, rows);
+        same(what, found.contains(&true), count == most)?;
+        for (&refused, (_, sure)) in found.iter().zip(choices) {
+            same(what, refused || rows > *sure || count > most, true)?;
+        }
     }
     Ok((enough - most + 1) * choices.len() as u64)
 }
 
 /// The least of the best delays finds refused tables wherever it is tried: Meta-Offset from two
-/// to 64 rows, First Fit to twelve. Choices at random find them up to about six rows.
+/// to 64 rows, First Fit to twelve. Any of the best is sure with three rows: row 0's delay only turns
+/// crossing 2, the other two are the worst pair of all. With two rows every choice is sure. Else they
+/// may find none, and often do with many rows: they are there for more kinds of tables at the bound.
 pub fn greedy_tables() -> Result<u64, String> {
     let mut random = Random::new(16);
     let mut count = 0;
-    let all: [Choice; 6] =
-        [least_of_the_best, any_of_the_best, any_of_the_best, best_of_a_few, late_rows, late_rows];
+    let (least, few, late): (Choice, Choice, Choice) =
+        ((least_of_the_best, 64), (best_of_a_few, 2), (late_rows, 2));
+    let all = [least, (any_of_the_best, 3), (any_of_the_best, 3), few, late, late];
     for size in [1, 2, 3, 5] {
         for rows in 2..=12 {
             count += around(&mut random, Planner::MetaOffset, (size, rows), &all)?;
@@ -227,8 +237,7 @@ pub fn greedy_tables() -> Result<u64, String> {
         }
     }
     for rows in [16, 20, 24, 32, 48, 64] {
-        let quick = &[least_of_the_best, best_of_a_few, late_rows];
-        count += around(&mut random, Planner::MetaOffset, (2, rows), quick)?;
+        count += around(&mut random, Planner::MetaOffset, (2, rows), &[least, few, late])?;
     }
     for rows in [8, 10, 12] {
         count += around(&mut random, Planner::FirstFit, (2, rows), &all)?;
@@ -236,10 +245,12 @@ pub fn greedy_tables() -> Result<u64, String> {
     Ok(count)
 }
 
-/// A local search from random tables finds refused ones for two to seven rows.
+/// Of four local searches from random tables one at least finds a refused one: Meta-Offset with two
+/// to seven rows, First Fit with two to five. Up to there nearly every search does with its number of
+/// rounds, with more rows fewer and fewer: the ranges say nothing about the planners.
 pub fn climbed_tables() -> Result<u64, String> {
     let mut random = Random::new(17);
-    let choices: [Choice; 4] = [climbed; 4];
+    let choices: [Choice; 4] = [(climbed, 2); 4];
     let mut count = 0;
     for size in [1, 2, 3, 5] {
         for rows in 2..=7 {

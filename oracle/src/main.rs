@@ -11,6 +11,7 @@ mod link;
 mod loads;
 mod mix;
 mod planfile;
+mod planner;
 mod program;
 mod quick;
 mod random;

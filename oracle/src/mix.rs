@@ -1,6 +1,6 @@
 //! Random cases of every kind: short and long, valid and damaged, dense and light.
 
-use crate::bad::{near_the_bound, Planner};
+use crate::bad::near_the_bound;
 use crate::brute::text_of;
 use crate::cases::{Case, Lent};
 use crate::checker::Record;
@@ -8,6 +8,7 @@ use crate::damage::{damage_file, damage_text};
 use crate::exact::{ceiling, exact, MAX_EXACT_ROWS};
 use crate::link::{Table, CROSSINGS};
 use crate::planfile::plan_file;
+use crate::planner::Planner;
 use crate::quick::first_fit;
 use crate::random::Random;
 
@@ -84,7 +85,8 @@ pub fn turned(table: &Table, offsets: &[u64], turn: u64) -> Vec<u64> {
     offsets.iter().map(|offset| (offset + turn) % table.period).collect()
 }
 
-/// A quarter of the tables are near the bound of request Three. What these take is drawn apart too.
+/// A quarter of the tables are near the bound of request Three. They come from a generator of their
+/// own, so that what follows in a seed's cases does not hang on how such a table is made.
 fn quick_case(random: &mut Random, planner: Planner) -> Case {
     let mut own = random.branch();
     let mut table = table(random);

@@ -20,7 +20,7 @@ use crate::vectors;
 /// A group gives the number of comparisons made, or says what differs.
 type Group = fn() -> Result<u64, String>;
 
-const GROUPS: [(&str, Group); 33] = [
+const GROUPS: [(&str, Group); 34] = [
     ("meeting: slot sets against differences", meeting),
     ("checker: the least of all collisions", checker),
     ("quick planners: the least of all free offsets", quick_planners),
@@ -54,6 +54,7 @@ const GROUPS: [(&str, Group); 33] = [
     ("lent buffers: kept on refusal, tail kept", lent_buffers),
     ("case lines: read back, within their limits", case_lines),
     ("vectors: documents 01 and 02 and readings", all_vectors),
+    ("vectors: planners' tables by brute force", planner_vectors),
 ];
 
 pub fn run() -> Result<(), String> {
@@ -857,4 +858,27 @@ fn all_vectors() -> Result<u64, String> {
     let output = program::run(b"pma 1\n10 2\n0\n3\n7\nend 3\n");
     same("01 program", output, b"found 3\n0\n2\n5\n".to_vec())?;
     Ok(count + 1)
+}
+
+/// The planners on the tables of their vectors, against brute force where that is quick enough.
+fn planner_vectors() -> Result<u64, String> {
+    let (mut quick, mut searched) = (Vec::new(), Vec::new());
+    for vector in vectors::all() {
+        match vector.case {
+            Case::FirstFit { table, .. } | Case::MetaOffset { table, .. } => quick.push(table),
+            Case::Exact { table, .. } => searched.push(table),
+            _ => {}
+        }
+    }
+    quick.retain(|table| table.judge().is_ok() && table.rows() <= 12);
+    searched.retain(|table| table.judge().is_ok() && table.rows() <= 6);
+    // Both quick planners run on a table; most tables that come twice stand side by side.
+    quick.dedup();
+    for table in &quick {
+        quick_both(table)?;
+    }
+    for table in &searched {
+        same(table, exact_answer(table)?, brute::exact(table))?;
+    }
+    Ok((2 * quick.len() + searched.len()) as u64)
 }

@@ -1,8 +1,8 @@
 //! How often each kind of case ends in each refusal or verdict.
 
-use crate::bad::Planner;
 use crate::cases::{Case, KINDS};
 use crate::link::{Table, CROSSINGS};
+use crate::planner::Planner;
 use std::collections::BTreeMap;
 
 /// The outcomes of a quick planner; at the bound of request Three's promise and above there is no 13.

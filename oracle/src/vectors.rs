@@ -1,5 +1,8 @@
-//! Vectors: every worked table of document 01, requests One to Three of document 02, and every
-//! example of their decided readings, each with the answer written down by hand.
+//! Vectors: every worked table of document 01, requests One to Three of document 02, every example
+//! of their decided readings, and the manual's tables, each with the answer written down. Answers
+//! are the documents' or worked out by hand; the plans of the manual's tables come from brute force
+//! over slot sets outside this program. The self-test compares the planners' with its own brute
+//! force too, up to twelve rows, the exact planner's up to six.
 
 use crate::cases::{counted, Case, Lent};
 use crate::checker::Record;
@@ -313,7 +316,8 @@ fn crossings() -> Vec<Vector> {
 }
 
 /// C1: tables on which taking the placed rows in the order of placing, not by row number,
-/// gives another number of tests or other offsets.
+/// gives another number of tests or other offsets. These numbers are long to count by hand: what
+/// speaks for them is that the self-test's brute force gives the same.
 fn step_order() -> Vec<Vector> {
     let full = u64::MAX;
     vec![
@@ -1143,7 +1147,7 @@ fn offsets_all_taken() -> Vec<Vector> {
     ]
 }
 
-/// First Fit "never gives 13 when P is above (3n-2)T - n"
+/// First Fit never gives 13 when P is above (3n-2)T - n.
 fn offsets_enough() -> Vec<Vector> {
     let plan = |name, link, delays: &[u64], offsets: &[u64]| {
         planned(name, first_fit, link, delays, offsets)
@@ -1206,18 +1210,23 @@ fn light_loads_of_12_rows() -> Vec<Vector> {
     ]
 }
 
-/// Twelve rows, period 1000: 34 = 3n-2 multiples with size 29, 33 with size 30. The plans come from
-/// a separate program with slot sets.
+/// Twelve rows, period 1000: 34 = 3n-2 multiples with size 29, 33 with size 30, where some tables
+/// get 13 and others, as the first with this size, a plan. The plans come from brute force over slot
+/// sets outside this program, and the self-test's brute force gives the same.
 fn tables_of_the_manual() -> Vec<Vector> {
     let light = [120, 340, 95, 610, 47, 883, 256, 731, 508, 19, 662, 404];
     let first = [0, 29, 58, 87, 135, 164, 193, 222, 251, 280, 320, 384];
     let meta = [0, 29, 58, 87, 145, 116, 174, 203, 232, 261, 377, 406];
     let bad = [1, 31, 61, 91, 121, 151, 181, 211, 241, 271, 301, 670];
     let not_promised = [0, 30, 60, 90, 120, 150, 180, 210, 240, 270, 300, 361];
+    let first_30 = [0, 30, 60, 90, 138, 168, 198, 228, 258, 288, 327, 392];
+    let meta_30 = [0, 30, 60, 90, 150, 120, 180, 210, 240, 270, 390, 420];
     vec![
         planned("I3 manual, size 29", first_fit, (1000, 29), &light, &first),
         planned("I3 manual, size 29", meta_offset, (1000, 29), &light, &meta),
         last_refused("I3 manual, size 30", meta_offset, (1000, 30), &bad),
         planned("I3 manual, size 30", first_fit, (1000, 30), &bad, &not_promised),
+        planned("I3 size 30 for 29", first_fit, (1000, 30), &light, &first_30),
+        planned("I3 size 30 for 29", meta_offset, (1000, 30), &light, &meta_30),
     ]
 }

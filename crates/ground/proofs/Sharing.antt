@@ -1,5 +1,4 @@
--- At most how many numbers below n have a test: they are shared out by a number that each of them has, and the shares add up.
--- Assumes nothing.
+-- At most how many numbers below m have a test. They are shared out, each to one number i below n, and the shares add up. Assumes nothing.
 use mathlib.Core.Path.{_≡_, sym, _∙_}
 use mathlib.Core.Bool.{Bool, true, false, cond, _||_, or-true}
 use mathlib.Core.Logic.{⊎-elim}
@@ -14,7 +13,7 @@ use Rattle.ground.proofs.Bools.{is-false, same-test, true-or-false, lt-
 use Rattle.ground.proofs.Counting.{count-in, count-out, count-gap, count-cong, count-or, orOf}
 use Rattle.ground.proofs.Minimum.{least-is}
 
--- a test that implies another has no more
+-- no more have a test than another that it implies
 pub count-upto : (q r : ℕ → Bool) (n : ℕ) → ((s : ℕ) → s < n → q s ≡ true → r s ≡ true) → count q n ≤ count r n
 unfolding count
 count-upto q r zero h = omega arith
@@ -24,7 +23,7 @@ count-upto q r (suc n) h =
     (λ e. ⊎-elim (λ f. omega (arith, i, count-out q n e, count-in r n f)) (λ f. omega (arith, i, count-out q n e, count-out r n f))
     (true-or-false (r n))) (true-or-false (q n))
 
--- two tests together have no more than each by itself
+-- no more have one of two tests than have each of them, added
 pub count-either : (q r : ℕ → Bool) (n : ℕ) → count (orOf q r) n ≤ count q n + count r n
 unfolding count
 count-either q r zero = omega arith
@@ -37,7 +36,7 @@ count-either q r (suc n) = go (q n) (r n) (count-either q r n)
     go false true h = omega arith
     go false false h = omega arith
 
--- a test that no two numbers have
+-- at most one has a test that no two have
 pub count-once : (q : ℕ → Bool) (n : ℕ) → ((s t : ℕ) → s < t → t < n → q s ≡ true → q t ≡ true → ⊥) → count q n ≤ 1
 unfolding count
 count-once q zero h = omega arith
@@ -46,7 +45,7 @@ count-once q (suc n) h =
     (λ e. omega (arith, count-in q n e, count-gap q 0 n (omega arith) (λ s _ l. is-false (q s) (λ f. h s n l (omega arith) f e))))
     (λ e. omega (arith, count-out q n e, count-once q n (λ s t l m. h s t l (omega arith)))) (true-or-false (q n))
 
--- numbers that are at most b each, the first of them at most e more
+-- n numbers of at most b each, the first of at most e more, are at most n b + e
 pub sum-most : (f : ℕ → ℕ) (b e n : ℕ) → (0 < n → f 0 ≤ b + e) → ((i : ℕ) → 0 < i → i < n → f i ≤ b) → sum f n ≤ n * b + e
 unfolding sum
 sum-most f b e zero first others = omega arith
@@ -72,7 +71,7 @@ below-suc x n = same-test _ _ there back
     back e =
         ⊎-elim (λ l. rw (lt-ltb x n l, or-true)) (λ l. rw (eq-eqb x n (omega (arith, ltb-true x (suc n) e)))) (lt-or-ge x n)
 
--- of the numbers c below m, those with f c below n: so many have f c = 0, so many 1, .., and together they are all
+-- of the numbers c below m, those with f c below n: so many have f c = 0, so many 1, .., and these add up to all
 pub shares : (f : ℕ → ℕ) (m n : ℕ) → sum (λ i. count (λ c. eqb (f c) i) m) n ≡ count (λ c. ltb (f c) n) m
 unfolding sum count
 shares f m zero = sym (count-gap (λ c. ltb (f c) 0) 0 m (omega arith) (λ c _ _. is-false _ (λ e. omega (arith, ltb-true (f c) 0 e))))
@@ -81,7 +80,7 @@ shares f m (suc n) =
     (sym (count-or (λ c. eqb (f c) n) (λ c. ltb (f c) n) m (λ c _ e l. omega (arith, eqb-true (f c) n e, ltb-true (f c) n l)))
     ∙ count-cong (λ c. eqb (f c) n || ltb (f c) n) (λ c. ltb (f c) (suc n)) m (λ c _. below-suc (f c) n))
 
--- no two of them have the same f c below n
+-- at most n of them, if no two have the same f c
 pub count-values : (f : ℕ → ℕ) (m n : ℕ) → ((c d : ℕ) → c < d → d < m → f c < n → f c ≡ f d → ⊥) → count (λ c. ltb (f c) n) m ≤ n
 count-values f m n h = omega (arith, shares f m n, sum-most _ 1 0 n (λ l. each 0 l) (λ i _ l. each i l), mul-one n)
   where
@@ -90,7 +89,7 @@ count-values f m n h = omega (arith, shares f m n, sum-most _ 1 0 n (λ l. each 
         count-once _ m
         (λ c d k j e g. let x = eqb-true (f c) i e in let y = eqb-true (f d) i g in h c d k j (omega arith) (omega arith))
 
--- the numbers c whose least i with q c is i have it
+-- c is shared out to i, the least with which it has q: no more than have q with i
 pub least-has : (q : ℕ → ℕ → Bool) (m n i : ℕ) → i < n → count (λ c. eqb (least (q c) n) i) m ≤ count (λ c. q c i) m
 least-has q m n i l = count-upto _ _ m (λ c _ e. has c (eqb-true (least (q c) n) i e))
   where

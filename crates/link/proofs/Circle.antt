@@ -23,6 +23,9 @@ pub apart-true : (p l a b : ℕ) → Apart p l a b → apartb p l a b ≡ true
 unfolding apartb
 apart-true p l a b w = and-both _ _ (le-leb _ _ (w .0)) (le-leb _ _ (w .1))
 
+pub apart-sym : (p l a b : ℕ) → Apart p l a b → Apart p l b a
+apart-sym p l a b w = omega arith
+
 pub apart-near : (p l a b : ℕ) → gap a b < l → apartb p l a b ≡ false
 apart-near p l a b h = is-false _ (λ e. let w = apart-parts p l a b e in omega arith)
 
@@ -146,6 +149,9 @@ module _ (p l a b : ℕ) (ha : a < p) (hb : b < p) (hl : l ≤ p) where
   pub apart-met : Apart p l a b → meets p l a b ≡ false
   apart-met w = meets-apart ∙ ap not (apart-true p l a b w)
 
+  pub near-met : (Apart p l a b → ⊥) → meets p l a b ≡ true
+  near-met n = meets-apart ∙ ap not (is-false (apartb p l a b) (λ e. n (apart-parts p l a b e)))
+
 -- the test is the statement
 pub uses-true : (p l a s : ℕ) → Uses p l a s → uses p l a s ≡ true
 unfolding uses
@@ -167,3 +173,11 @@ meets-slot p l a b e =
     let s = least (λ s. uses p l a s && uses p l b s) p in
     let w = and-parts (uses p l a s) (uses p l b s) (some-has (λ s. uses p l a s && uses p l b s) p e) in
     (s, uses-slot p l a s (w .0), uses-slot p l b s (w .1))
+
+-- two starts have no slot in common exactly where they are apart
+module _ (p l a b : ℕ) (ha : a < p) (hb : b < p) (hl : l ≤ p) where
+  pub no-slot : Apart p l a b → Meet p l a b → ⊥
+  no-slot w m = clash (meets-true p l a b (omega arith) m) (apart-met p l a b ha hb hl w)
+
+  pub apart-slots : (Meet p l a b → ⊥) → Apart p l a b
+  apart-slots n = apart-of p l a b ha hb hl (is-false (meets p l a b) (λ e. n (meets-slot p l a b e)))

@@ -1,6 +1,6 @@
 -- A plan is clear exactly where each row's offset is free of the rows before it. Assumes nothing.
 use mathlib.Core.Path.{_≡_, ap}
-use mathlib.Core.Bool.{Bool, true, false, not}
+use mathlib.Core.Bool.{true, false, not}
 use mathlib.Core.List.{List}
 use Prim.Native.Nat.{ℕ, _≤_, _<_}
 use native.Mathlib.Omega.{arith}
@@ -23,16 +23,19 @@ module _ {p l : ℕ} {ds os : List ℕ} where
   clear-both w = record { in-one = w one; in-two = w two }
 
 module _ (p l : ℕ) (ds os : List ℕ) where
-  pub clear-rows : 0 < p → ((j : ℕ) → j < length ds → free p l ds os j (getD ds j 0) (getD os j 0) ≡ true) → Clear p l ds os
-  unfolding free either hits start
-  clear-rows h f =
-      clear-both (λ c. record { apart = λ i j d m q. clash (meets-true p l (start p ds os c i) (start p ds os c j) h q) (at c i j d m) })
-    where
-      hit : ℕ → Crossing → ℕ → Bool
-      hit j = hits p l ds os (getD ds j 0) (getD os j 0)
+  -- at a free offset a row meets no earlier one, in either crossing
+  pub free-meets-none : (n d a : ℕ) → free p l ds os n d a ≡ true → (c : Crossing) (i : ℕ) → i < n → hits p l ds os d a c i ≡ false
+  unfolding free
+  free-meets-none n d a f c i q = none-hit (hits p l ds os d a) c i (none-has (either (hits p l ds os d a)) n (not-true _ f) i q)
 
-      at : (c : Crossing) (i j : ℕ) → i < j → j < length ds → hits p l ds os (getD ds j 0) (getD os j 0) c i ≡ false
-      at c i j d m = none-hit (hit j) c i (none-has (either (hit j)) j (not-true _ (f j m)) i d)
+  pub clear-rows : 0 < p → ((j : ℕ) → j < length ds → free p l ds os j (getD ds j 0) (getD os j 0) ≡ true) → Clear p l ds os
+  unfolding hits start
+  clear-rows h f =
+      clear-both (λ c. record {
+        apart = λ i j d m q.
+            clash (meets-true p l (start p ds os c i) (start p ds os c j) h q)
+            (free-meets-none j (getD ds j 0) (getD os j 0) (f j m) c i d);
+      })
 
   pub rows-clear : Clear p l ds os → (j : ℕ) → j < length ds → free p l ds os j (getD ds j 0) (getD os j 0) ≡ true
   unfolding free hits start

@@ -16,10 +16,10 @@ use Rattle.link.proofs.Circle.{Apart, Turned, turned, apart-of, apart-m
 use Rattle.link.proofs.Turning.{meets-moved, apart-moved, after-on}
 
 -- the turn that brings the start a to b
-abbrev to : ℕ → ℕ → ℕ → ℕ
-to p a b = p - a + b
+abbrev turnTo : ℕ → ℕ → ℕ → ℕ
+turnTo p a b = p - a + b
 
-comes-to : (p a b : ℕ) → a < p → b < p → after p (to p a b) a ≡ b
+comes-to : (p a b : ℕ) → a < p → b < p → after p (turnTo p a b) a ≡ b
 unfolding after
 comes-to p a b ha hb =
     let e : a + (p - a + b) ≡ p + b = omega arith in
@@ -35,11 +35,11 @@ ends-at-0 p l a ha hl some e = go (rw e at (turned p (a + l) (omega arith)))
 
 module _ (p l a : ℕ) (hl : l ≤ p) (some : 0 < l) (ha : a < p) where
   -- turned so that the message starts in slot l-1, those that meet it start in the first 2l-1 slots
-  around-it : (z : ℕ) → z < p → meets p l a z ≡ true → after p (to p a (l - 1)) z < l + l - 1
+  around-it : (z : ℕ) → z < p → meets p l a z ≡ true → after p (turnTo p a (l - 1)) z < l + l - 1
   around-it z hz e = ⊎-elim (λ h. h) (λ h. clash e (far h)) (lt-or-ge y (l + l - 1))
     where
       r : ℕ
-      r = to p a (l - 1)
+      r = turnTo p a (l - 1)
 
       y : ℕ
       y = after p r z
@@ -54,14 +54,14 @@ module _ (p l a : ℕ) (hl : l ≤ p) (some : 0 < l) (ha : a < p) where
   b = after p l a
 
   -- turned so that the message right after it starts in slot 0, those that meet that one but not it start in the first l slots
-  behind-it : (z : ℕ) → z < p → meets p l b z ≡ true → meets p l a z ≡ false → after p (to p b 0) z < l
+  behind-it : (z : ℕ) → z < p → meets p l b z ≡ true → meets p l a z ≡ false → after p (turnTo p b 0) z < l
   behind-it z hz e f = ⊎-elim (λ h. h) (λ h. clash e (far h)) (lt-or-ge y l)
     where
       hb : b < p
       hb = after-low p (omega arith) l a
 
       r : ℕ
-      r = to p b 0
+      r = turnTo p b 0
 
       y : ℕ
       y = after p r z
@@ -109,7 +109,7 @@ module _ (p s : ℕ) (x : ℕ → ℕ) (m : ℕ) (step : 0 < s) (low : (c : ℕ)
     pub met-most : l + l - 1 ≤ k * s → count (λ c. meets p l a (x c)) m ≤ k
     met-most wide = in-front (λ c. meets p l a (x c)) _ (l + l - 1) k wide (λ c h. around-it p l a hl some ha (x c) (low c h))
 
-    -- the message right after it, at b, meets at most k others, where k s is at least l
+    -- the message right after it, at b, meets at most k that it does not, where k s is at least l
     pub met-behind : (b : ℕ) → b ≡ after p l a → l ≤ k * s → count (λ c. meets p l b (x c) && not (meets p l a (x c))) m ≤ k
     met-behind b right wide =
         in-front (λ c. meets p l b (x c) && not (meets p l a (x c))) _ l k wide

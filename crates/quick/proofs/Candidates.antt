@@ -2,14 +2,18 @@
 use mathlib.Core.Path.{_≡_, ap, _∙_, subst}
 use mathlib.Core.List.{List}
 use Prim.Native.Nat.{ℕ, _+_, _*_, _%_, _≤_, _<_}
+use native.Mathlib.Omega.{arith}
 use native.Mathlib.Nat.{suc-mul, mul-le-mul-right, mod-add-mod, add-right-comm}
 use native.Mathlib.Numerals.{add-one}
 use Rattle.link.specs.Rows.{second, firstNear, isNobody}
 use Rattle.link.specs.declared.Met.{Met}
-use Rattle.quick.specs.Ways.{openTo}
+use Rattle.quick.specs.Ways.{Ways, openTo}
 
 pub next-low : (c count step : ℕ) → c < count → c * step + step ≤ count * step
 next-low c count step h = subst (λ (x : ℕ). x ≤ count * step) (suc-mul c step) (mul-le-mul-right step h)
+
+pub candidate-low : (p l step count : ℕ) → Ways p l step count → (c : ℕ) → c < count → c * step < p
+candidate-low p l step count w c h = omega (arith, next-low c count step h, w .low, w .some-step)
 
 pub next-is : (c step a : ℕ) → a ≡ c * step → a + step ≡ (c + 1) * step
 next-is c step a e = rw (add-one, suc-mul, e)

@@ -1,12 +1,11 @@
--- Where the rows before a row cannot take all of the planner's offsets: so many for each of them, summed up. Assumes nothing.
+-- Where the rows before a row cannot take all of the planner's offsets: each takes at most so many, and these are summed up.
+-- Assumes nothing.
 use mathlib.Core.Path.{_≡_, sym, ap, _∙_}
-use mathlib.Core.Logic.{⊎-elim}
 use mathlib.Core.List.{List}
-use Prim.Native.Nat.{ℕ, suc, _+_, _-_, _*_, _/_, _≤_, _<_}
+use Prim.Native.Nat.{ℕ, zero, suc, _+_, _-_, _*_, _/_, _≤_, _<_}
 use native.Mathlib.Omega.{arith}
-use native.Mathlib.Nat.{zero-mul, mul-one, one-mul, mul-suc, mul-add, add-mul, mul-le-mul-right, le-div-iff-mul-le}
+use native.Mathlib.Nat.{zero-mul, mul-one, one-mul, mul-suc, suc-mul, mul-add, add-mul, mul-le-mul-right, le-div-iff-mul-le}
 use lib.ListN.{length}
-use Rattle.ground.proofs.Bools.{lt-or-ge}
 use Rattle.ground.proofs.Sharing.{sum-most}
 use Rattle.link.specs.Range.{GoodTable}
 use Rattle.link.specs.Rows.{spanOf}
@@ -18,45 +17,39 @@ use Rattle.quick.proofs.FirstFit.{each-least}
 use Rattle.quick.proofs.Following.{follows}
 use Rattle.quick.proofs.Losing.{three-at-most, twice-at-most, follower-at-most, all-named}
 
--- 3n-2 messages end to end are three for each row but the last, and one
-messages : (n l : ℕ) → 1 ≤ n → (3 * n - 2) * l ≡ (n - 1) * l + ((n - 1) * l + ((n - 1) * l + l))
-messages n l h =
-    let e : 3 * n - 2 ≡ n - 1 + (n - 1 + (n - 1 + 1)) = omega arith in
-    rw (e, add-mul, add-mul, add-mul, one-mul)
+-- for u + 1 rows, 3n-2 messages end to end are three for each row but the last, and one
+pub messages : (u l : ℕ) → (3 * (u + 1) - 2) * l ≡ u * l + (u * l + (u * l + l))
+messages u l = let e : 3 * (u + 1) - 2 ≡ u + (u + (u + 1)) = omega arith in rw (e, add-mul, add-mul, add-mul, one-mul)
 
-simple-low : (n l p : ℕ) → 1 ≤ n → 1 ≤ l → l ≤ p → (n - 1) * (4 * l - 2) < p → (3 * n - 2) * l < p + n
-simple-low n l p some-row some-slot fits h = ⊎-elim (λ q. omega (arith, one-row q, all)) (λ q. omega (arith, more q, all)) (lt-or-ge u 1)
-  where
-    u : ℕ
-    u = n - 1
+-- with u rows before the last, 4l-2 for each of them is no less than 3l-1 for each and l-1 more
+simple-is-enough : (u l p : ℕ) → 1 ≤ l → l ≤ p → u * (4 * l - 2) < p → (3 * (u + 1) - 2) * l < p + (u + 1)
+simple-is-enough zero l p some fits h = omega (arith, messages 0 l, zero-mul l)
+simple-is-enough (suc v) l p some fits h =
+    let u = suc v in
+    let e : suc (suc (4 * l - 2)) ≡ l + (l + (l + l)) = omega arith in
+    let four : u * (4 * l - 2) + u + u ≡ u * l + (u * l + (u * l + u * l)) =
+    sym (mul-suc u (suc (4 * l - 2)) ∙ ap (λ (x : ℕ). x + u) (mul-suc u (4 * l - 2))) ∙ rw (e, mul-add, mul-add, mul-add) in
+    let f : l ≡ suc (l - 1) = omega arith in
+    let g : u * l ≡ u * (l - 1) + u = ap (λ (x : ℕ). u * x) f ∙ mul-suc u (l - 1) in
+    omega (arith, messages u l, four, g, suc-mul v (l - 1))
 
-    all : (3 * n - 2) * l ≡ u * l + (u * l + (u * l + l))
-    all = messages n l some-row
-
-    four : u * (4 * l - 2) + u + u ≡ u * l + (u * l + (u * l + u * l))
-    four =
-        let e : suc (suc (4 * l - 2)) ≡ l + (l + (l + l)) = omega arith in
-        sym (mul-suc u (suc (4 * l - 2)) ∙ ap (λ (x : ℕ). x + u) (mul-suc u (4 * l - 2))) ∙ rw (e, mul-add, mul-add, mul-add)
-
-    one-row : u < 1 → u * l ≡ 0
-    one-row q = let e : u ≡ 0 = omega arith in rw e (zero-mul l)
-
-    -- (u-1)(l-1) is not below 0
-    more : 1 ≤ u → u * l + (u * l + (u * l + l)) < p + n
-    more q =
-        let e : l ≡ suc (l - 1) = omega arith in
-        let f : u * l ≡ u * (l - 1) + u = ap (λ (x : ℕ). u * x) e ∙ mul-suc u (l - 1) in
-        omega (arith, f, four, mul-le-mul-right (l - 1) q, one-mul (l - 1))
+-- no row of the table is without an offset
+abbrev pub NoneStuck : Link → List ℕ → ℕ → ℕ → Type 0
+NoneStuck k ds step count = (j : ℕ) → j < length ds → Stuck (k .period) (spanOf k) ds step count j → ⊥
 
 module _ (k : Link) (ds : List ℕ) (g : GoodTable k ds) where
-  abbrev n : ℕ
-  n = length ds
+  -- the rows before the last
+  abbrev u : ℕ
+  u = length ds - 1
 
   abbrev p : ℕ
   p = k .period
 
   abbrev l : ℕ
   l = spanOf k
+
+  n : length ds ≡ u + 1
+  n = omega (arith, g .rows-low)
 
   pub third-is-light : ThirdLoad k ds → LightLoad k ds
   third-is-light h = let fits = le-div-iff-mul-le (g .span-low) .1 h in omega arith
@@ -66,24 +59,20 @@ module _ (k : Link) (ds : List ℕ) (g : GoodTable k ds) where
   light-for-first-fit h = omega (arith, le-div-iff-mul-le (g .span-low) .0 h, g .rows-low)
 
   pub simple-for-first-fit : SimpleLoad k ds → FirstFitLoad k ds
-  simple-for-first-fit h = omega (arith, simple-low n l p (g .rows-low) (g .span-low) (g .span-high) h)
-
-  -- no row of the table is without an offset
-  abbrev pub NoneStuck : ℕ → ℕ → Type 0
-  NoneStuck step count = (j : ℕ) → j < n → Stuck p l ds step count j → ⊥
+  simple-for-first-fit h = rw n (omega (arith, simple-is-enough u l p (g .span-low) (g .span-high) h))
 
   -- each earlier row takes at most b of the offsets, row 0 at most e more, and there are more than all rows but the last can take
   none-stuck : (step count b e : ℕ)
       → ((j : ℕ) (os : List ℕ) → Placed p l ds step count j os → (i : ℕ) → i < j
       → (namedFor p l ds os step count j i ≤ b + e) × (0 < i → namedFor p l ds os step count j i ≤ b))
-      → (n - 1) * b + e < count → NoneStuck step count
+      → u * b + e < count → NoneStuck k ds step count
   none-stuck step count b e each more j h s =
-      let last : j ≤ n - 1 = omega arith in
+      let last : j ≤ u = omega arith in
       let at-most = each j (s .offsets) (s .before) in
       let most = sum-most _ b e j (λ q. at-most 0 q .0) (λ i f q. at-most i q .1 f) in
       omega (arith, all-named p l ds step count j s, most, more, mul-le-mul-right b last)
 
-  pub multiples-enough : LightLoad k ds → NoneStuck l (p / l)
+  pub multiples-enough : LightLoad k ds → NoneStuck k ds l (p / l)
   multiples-enough light =
       none-stuck l (p / l) 3 0
       (λ j os r i h.
@@ -92,16 +81,16 @@ module _ (k : Link) (ds : List ℕ) (g : GoodTable k ds) where
       (omega (arith, g .rows-low))
 
   -- row 0 takes 4l-2 offsets and each later one 3l-1
-  pub offsets-enough : FirstFitLoad k ds → NoneStuck 1 p
+  pub offsets-enough : FirstFitLoad k ds → NoneStuck k ds 1 p
   offsets-enough light =
-      none-stuck 1 p (l + w) (l - 1) each (omega (arith, light, all, messages n l (g .rows-low), g .rows-low, g .span-low))
+      none-stuck 1 p (l + w) (l - 1) each (omega (arith, rw n at light, all, messages u l, g .span-low))
     where
       -- the slots in which a start meets a row
       w : ℕ
       w = l + l - 1
 
-      all : (n - 1) * (l + w) + (n - 1) ≡ (n - 1) * l + ((n - 1) * l + (n - 1) * l)
-      all = let e : suc (l + w) ≡ l + (l + l) = omega (arith, g .span-low) in sym (mul-suc (n - 1) (l + w)) ∙ rw (e, mul-add, mul-add)
+      all : u * (l + w) + u ≡ u * l + (u * l + u * l)
+      all = let e : suc (l + w) ≡ l + (l + l) = omega (arith, g .span-low) in sym (mul-suc u (l + w)) ∙ rw (e, mul-add, mul-add)
 
       each : (j : ℕ) (os : List ℕ) → Placed p l ds 1 p j os → (i : ℕ) → i < j
           → (namedFor p l ds os 1 p j i ≤ l + w + (l - 1)) × (0 < i → namedFor p l ds os 1 p j i ≤ l + w)

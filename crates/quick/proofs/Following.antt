@@ -7,13 +7,14 @@ use mathlib.Core.List.{List}
 use Prim.Native.Nat.{ℕ, suc, _-_, _≤_, _<_}
 use native.Mathlib.Omega.{arith}
 use lib.ListN.{getD}
-use borrow.Author.Tests.{ltb-true, not-true, not-false}
+use borrow.Author.Tests.{ltb-true, not-false}
 use Rattle.ground.specs.Least.{least, some}
 use Rattle.ground.proofs.Bools.{clash, lt-or-ge}
-use Rattle.ground.proofs.Minimum.{some-has, none-has}
+use Rattle.ground.proofs.Minimum.{some-has}
 use Rattle.link.specs.Rows.{Crossing, one, startAt, start, hits, either, free}
 use Rattle.link.proofs.Circle.{apart-of}
-use Rattle.link.proofs.Meeting.{start-low, none-hit, one-hit}
+use Rattle.link.proofs.Clearness.{free-meets-none}
+use Rattle.link.proofs.Meeting.{start-low, one-hit}
 use Rattle.link.proofs.Touching.{start-back, right-after}
 use Rattle.quick.specs.Loads.{Follows}
 use Rattle.quick.specs.Right.{LeastFreeOffset}
@@ -22,10 +23,6 @@ module _ (p l : ℕ) (ds os : List ℕ) (span-high : l ≤ p) (some-span : 0 < l
   -- what a row of delay d meets at the offset a
   abbrev met : ℕ → ℕ → Crossing → ℕ → Bool
   met d a = hits p l ds os d a
-
-  in-none : (d a n : ℕ) → free p l ds os n d a ≡ true → (x : Crossing) (e : ℕ) → e < n → met d a x e ≡ false
-  unfolding free
-  in-none d a n h x e q = none-hit (met d a) x e (none-has (either (met d a)) n (not-true _ h) e q)
 
   -- the offset b + 1 is free for row i and b is not
   behind : (i b : ℕ) → getD os i 0 ≡ suc b → suc b < p → ((e : ℕ) → e < i → getD os e 0 < p)
@@ -39,7 +36,7 @@ module _ (p l : ℕ) (ds os : List ℕ) (span-high : l ≤ p) (some-span : 0 < l
       let w = one-hit (met d b) e (some-has (either (met d b)) i taken) in
       let x = w .0 in
       let there = start-low p x (getD ds e 0) (getD os e 0) (before e q) in
-      let apart = apart-of p l _ _ there (start-low p x d (suc b) high) span-high (in-none d (suc b) i f x e q) in
+      let apart = apart-of p l _ _ there (start-low p x d (suc b) high) span-high (free-meets-none p l ds os i d (suc b) f x e q) in
       record {
         earlier = e;
         is-earlier = q;
@@ -58,7 +55,7 @@ module _ (p l : ℕ) (ds os : List ℕ) (span-high : l ≤ p) (some-span : 0 < l
     unfolding hits start
     not-at-0 i h q =
         let apart = apart-of p l (getD os 0 0) (getD os i 0) (each 0 (omega arith) .low) (each i q .low) span-high
-        (in-none (getD ds i 0) (getD os i 0) i (each i q .is-free) one 0 h) in
+        (free-meets-none p l ds os i (getD ds i 0) (getD os i 0) (each i q .is-free) one 0 h) in
         ⊎-elim (λ a. a) (λ a. absurd (omega (arith, first-at-0 (omega arith), apart))) (lt-or-ge 0 (getD os i 0))
 
     pub follows : (i : ℕ) → 0 < i → i < n → Follows p l ds os i

@@ -11,14 +11,14 @@ use lib.ListN.{length, getD, length-append, List·getD-append}
 use lib.Seq.{getD-at}
 use Rattle.ground.specs.Protocol.{gives}
 use Rattle.ground.specs.Series.{listed}
-use Rattle.ground.proofs.Bools.{true-or-false, lt-or-ge}
+use Rattle.ground.proofs.Bools.{lt-or-ge}
 use Rattle.ground.proofs.Minimum.{some-at, some-none}
 use Rattle.ground.proofs.Series.{length-listed, getD-listed}
 use Rattle.link.specs.Limits.{maxPeriod, maxRows, noOffset}
 use Rattle.link.specs.Range.{GoodTable}
 use Rattle.link.specs.Rows.{one, two, second, start, hits, either, free}
-use Rattle.link.specs.Slots.{gap, meets}
-use Rattle.link.proofs.Circle.{Apart, apart-of, apart-met}
+use Rattle.link.specs.Slots.{gap}
+use Rattle.link.proofs.Circle.{Apart, apart-met, near-met}
 use Rattle.link.proofs.Meeting.{neither, hit-either}
 use Rattle.quick.specs.Answer.{said, quick}
 use Rattle.quick.specs.Loads.{fullDelays}
@@ -29,12 +29,20 @@ use Rattle.quick.specs.declared.Planned.the-variants.{Refused}
 use Rattle.quick.proofs.Candidates.{next-low}
 use Rattle.quick.proofs.Promises.{thirteen-exactly}
 
-must-meet : (p l a b : ℕ) → a < p → b < p → l ≤ p → (Apart p l a b → ⊥) → meets p l a b ≡ true
-must-meet p l a b ha hb hl near = ⊎-elim (λ e. e) (λ e. absurd (near (apart-of p l a b ha hb hl e))) (true-or-false (meets p l a b))
+-- u rows on 0, t, .., (u-1)t that start in crossing 2 at least t slots apart
+pub record Spread (d : ℕ → ℕ) (p t u : ℕ) : Type 0 where
+  pub rows : 1 ≤ u
+  pub some : 1 ≤ t
+  pub fits : u * t ≤ p
+  pub next : (i j : ℕ) → i < j → j < u → i * t + d i + t ≤ j * t + d j
+  pub high : (i : ℕ) → i < u → i * t + d i + t ≤ p
 
--- u rows on 0, t, .., (u-1)t that start in crossing 2 at least t slots apart, and a last row of the delay p - u t
-module _ (d : ℕ → ℕ) (p t u : ℕ) (rows : 1 ≤ u) (some : 1 ≤ t) (fits : u * t ≤ p)
-    (spread : (i j : ℕ) → i < j → j < u → i * t + d i + t ≤ j * t + d j) (high : (i : ℕ) → i < u → i * t + d i + t ≤ p) where
+-- an offset from u t on that is taken all the same: in crossing 2, or in crossing 1 by row 0, which follows over the period's end
+abbrev pub Covered : (ℕ → ℕ) → ℕ → ℕ → ℕ → ℕ → Type 0
+Covered d p t u a = ((i : ℕ) × (i < u) × (gap (i * t + d i) (a - u * t) < t)) ⊎ (p < a + t)
+
+-- these rows, and a last one of the delay p - u t
+module _ (d : ℕ → ℕ) (p t u : ℕ) (w : Spread d p t u) where
   abbrev ds : List ℕ
   ds = fullDelays d p t u
 
@@ -55,7 +63,7 @@ module _ (d : ℕ → ℕ) (p t u : ℕ) (rows : 1 ≤ u) (some : 1 ≤ t) (fits
 
   second-of : (i : ℕ) → i < u → second p (getD ds i 0) (i * t) ≡ i * t + d i
   unfolding second
-  second-of i h = rw (delay i h) (mod-eq-of-lt (omega (arith, high i h)))
+  second-of i h = rw (delay i h) (mod-eq-of-lt (omega (arith, w .high i h)))
 
   last-of : (a : ℕ) → u * t ≤ a → a < p → second p (getD ds u 0) a ≡ a - u * t
   unfolding second
@@ -72,14 +80,14 @@ module _ (d : ℕ → ℕ) (p t u : ℕ) (rows : 1 ≤ u) (some : 1 ≤ t) (fits
   unfolding hits start
   met-one j a i h l near =
       let low = next-low i u t h in
-      hit-either _ one i (rw (stands i h) (must-meet p t (i * t) a (omega arith) l (omega arith) near))
+      hit-either _ one i (rw (stands i h) (near-met p t (i * t) a (omega arith) l (omega arith) near))
 
   met-two : (a i : ℕ) → i < u → u * t ≤ a → a < p → gap (i * t + d i) (a - u * t) < t → either (hits p t ds os (getD ds u 0) a) i ≡ true
   unfolding hits start
   met-two a i h k l near =
-      let top = high i h in
+      let top = w .high i h in
       hit-either _ two i (rw (stands i h, second-of i h, last-of a k l)
-      (must-meet p t (i * t + d i) (a - u * t) (omega arith) (omega arith) (omega arith) (λ w. omega arith)))
+      (near-met p t (i * t + d i) (a - u * t) (omega arith) (omega arith) (omega arith) (λ w. omega arith)))
 
   -- a row before the last meets nobody where it stands, and an earlier row at each smaller offset
   not-met : (i j : ℕ) → i < j → j < u → either (hits p t ds os (getD ds j 0) (j * t)) i ≡ false
@@ -87,8 +95,8 @@ module _ (d : ℕ → ℕ) (p t u : ℕ) (rows : 1 ≤ u) (some : 1 ≤ t) (fits
   not-met i j h k =
       let a = next-low i j t h in
       let b = next-low j u t k in
-      let far = spread i j h k in
-      let top = high j k in
+      let far = w .next i j h k in
+      let top = w .high j k in
       let q : i < u = omega arith in
       neither _ i (rw (stands i q) (apart-met p t (i * t) (j * t) (omega arith) (omega arith) (omega arith) (omega arith)))
       (rw (stands i q, second-of i q, second-of j k)
@@ -97,44 +105,40 @@ module _ (d : ℕ → ℕ) (p t u : ℕ) (rows : 1 ≤ u) (some : 1 ≤ t) (fits
   met-before : (j k a : ℕ) → k ≤ u → a < k * t → MeetsOne j k a
   met-before j k a h l =
       let i = a / t in
-      let q : i < k = div-lt-iff-lt-mul some .1 l in
+      let q : i < k = div-lt-iff-lt-mul (w .some) .1 l in
       let most = mul-le-mul-right t h in
       let from = div-mul-le-self a t in
-      let to = lt-div-mul-add {a = a} some in
+      let to = lt-div-mul-add {a = a} (w .some) in
       (i, q, met-one j a i (omega arith) (omega arith) (λ w. omega arith))
 
-  -- an offset from u t on that is taken all the same: in crossing 2, or in crossing 1 by row 0, which follows over the period's end
-  abbrev pub Covered : ℕ → Type 0
-  Covered a = ((i : ℕ) × (i < u) × (gap (i * t + d i) (a - u * t) < t)) ⊎ (p < a + t)
-
-  last-met : (a : ℕ) → a < p → (u * t ≤ a → Covered a) → MeetsOne u u a
+  last-met : (a : ℕ) → a < p → (u * t ≤ a → Covered d p t u a) → MeetsOne u u a
   last-met a l cover =
       ⊎-elim (λ b. met-before u u a (omega arith) b)
-      (λ b. ⊎-elim (λ w. (w .0, w .1, met-two a (w .0) (w .1) b l (w .2)))
-      (λ w. (0, rows, met-one u a 0 rows l (λ v. omega (arith, zero-mul t)))) (cover b)) (lt-or-ge a (u * t))
+      (λ b. ⊎-elim (λ v. (v .0, v .1, met-two a (v .0) (v .1) b l (v .2)))
+      (λ over. (0, w .rows, met-one u a 0 (w .rows) l (λ v. omega (arith, zero-mul t)))) (cover b)) (lt-or-ge a (u * t))
 
   in-range : u < maxRows → p ≤ maxPeriod → GoodTable (record { period = p; size = t }) ds
   in-range many low =
-      let one-span = mul-le-mul-right t rows in
+      let one-span = mul-le-mul-right t (w .rows) in
       let is-one = one-mul t in
       record {
         period-low = omega arith;
         period-high = low;
-        span-low = some;
+        span-low = w .some;
         span-high = omega arith;
         rows-low = omega (arith, rows-of);
         rows-high = omega (arith, rows-of);
-        delays = λ i h. ⊎-elim (λ l. omega (arith, delay i l, high i l))
+        delays = λ i h. ⊎-elim (λ l. omega (arith, delay i l, w .high i l))
             (λ l. let e : i ≡ u = omega (arith, rows-of) in omega (arith, ap (λ (j : ℕ). getD ds j 0) e, last)) (lt-or-ge i u);
       }
 
   -- a planner that looks at each i t, by its index, and whose offsets from u t on are taken
   module _ (step count : ℕ) (index : ℕ → ℕ) (at : (i : ℕ) → i < u → index i * step ≡ i * t) (inside : (i : ℕ) → i < u → index i < count)
       (some-step : 0 < step)
-      (low : (c : ℕ) → c < count → c * step < p) (cover : (c : ℕ) → c < count → u * t ≤ c * step → Covered (c * step)) where
+      (low : (c : ℕ) → c < count → c * step < p) (cover : (c : ℕ) → c < count → u * t ≤ c * step → Covered d p t u (c * step)) where
     not-free : (j c : ℕ) → MeetsOne j j (c * step) → freeAt p t ds os j step c ≡ false
     unfolding freeAt free
-    not-free j c w = ap not (some-at _ j (w .0) (w .1) (w .2))
+    not-free j c v = ap not (some-at _ j (v .0) (v .1) (v .2))
 
     free-there : (j : ℕ) → j < u → freeAt p t ds os j step (index j) ≡ true
     unfolding freeAt free

@@ -24,7 +24,7 @@ use Rattle.quick.specs.Loads.{namedFor, Follows}
 use Rattle.quick.specs.Plan.{freeAt}
 use Rattle.quick.specs.Right.{Placed, Stuck}
 use Rattle.quick.specs.Ways.{Ways}
-use Rattle.quick.proofs.Candidates.{next-low}
+use Rattle.quick.proofs.Candidates.{next-low, candidate-low}
 
 abbrev other : Crossing → Crossing
 other one = two
@@ -38,8 +38,8 @@ one-or-other h one i e f g = rw (none-hit h one e g, and-true) f
 one-or-other h two i e f g = rw (none-hit h two e g, and-true, or-comm (h two i) (h one i)) f
 
 module _ (p l : ℕ) (ds : List ℕ) (step n : ℕ) (w : Ways p l step n) (some-span : 0 < l) where
-  candidate-low : (c : ℕ) → c < n → c * step < p
-  candidate-low c h = omega (arith, next-low c n step h, w .low, w .some-step)
+  low : (c : ℕ) → c < n → c * step < p
+  low = candidate-low p l step n w
 
   candidates-apart : (c d : ℕ) → c < d → d < n → Apart p step (c * step) (d * step)
   candidates-apart c d h i = omega (arith, next-low c d step h, next-low d n step i, w .low)
@@ -49,14 +49,14 @@ module _ (p l : ℕ) (ds : List ℕ) (step n : ℕ) (w : Ways p l step n) (some-
   starts-apart two e c d h i =
       let a = candidates-apart c d h i in
       rw (second-after p e (c * step), second-after p e (d * step))
-      (apart-moved p e (w .some-period) step (c * step) (d * step) (candidate-low c (omega arith)) (candidate-low d i) (omega arith) a)
+      (apart-moved p e (w .some-period) step (c * step) (d * step) (low c (omega arith)) (low d i) (omega arith) a)
 
   module _ (j : ℕ) (os : List ℕ) (r : Placed p l ds step n j os) where
     start-of : (x : Crossing) (i : ℕ) → i < j → start p ds os x i < p
     unfolding start
     start-of x i h =
         let e = r .each i h in
-        start-low p x (getD ds i 0) (getD os i 0) (omega (arith, e .1, candidate-low (e .0) (e .2 .candidate)))
+        start-low p x (getD ds i 0) (getD os i 0) (omega (arith, e .1, low (e .0) (e .2 .candidate)))
 
     -- what row j meets at the candidate c
     abbrev met : ℕ → Crossing → ℕ → Bool
@@ -67,7 +67,7 @@ module _ (p l : ℕ) (ds : List ℕ) (step n : ℕ) (w : Ways p l step n) (some-
     tried x c = startAt p x (getD ds j 0) (c * step)
 
     tried-low : (x : Crossing) (c : ℕ) → c < n → tried x c < p
-    tried-low x c q = start-low p x (getD ds j 0) (c * step) (candidate-low c q)
+    tried-low x c q = start-low p x (getD ds j 0) (c * step) (low c q)
 
     -- row i, which is placed
     module _ (i : ℕ) (h : i < j) where
@@ -98,7 +98,7 @@ module _ (p l : ℕ) (ds : List ℕ) (step n : ℕ) (w : Ways p l step n) (some-
           far : (c : ℕ) → c < n → met c one i ≡ true → Apart p l (e * step) (c * step) → ⊥
           far c q x a =
               clash (rw (r .each i h .1) at x)
-              (apart-met p l (e * step) (c * step) (candidate-low e e-low) (candidate-low c q) (w .span-high) a)
+              (apart-met p l (e * step) (c * step) (low e e-low) (low c q) (w .span-high) a)
 
           same : (c : ℕ) → c < n → met c one i ≡ true → c ≡ e
           same c q x =

@@ -17,7 +17,7 @@ use Rattle.ground.proofs.Minimum.{least-cong}
 use Rattle.link.proofs.Meeting.{Starts, told, nobody-free}
 use Rattle.quick.specs.Plan.{freeAt, rows, stuck, place, placed}
 use Rattle.quick.specs.Ways.{Ways, openTo}
-use Rattle.quick.proofs.Candidates.{next-low}
+use Rattle.quick.proofs.Candidates.{candidate-low}
 
 -- j rows are placed, with the starts xs and ys
 pub record State (p l : ℕ) (ds : List ℕ) (step count j : ℕ) (xs ys : List ℕ) : Type 0 where
@@ -44,9 +44,6 @@ module _
     (p l : ℕ) (ds : List ℕ) (step count : ℕ) (w : Ways p l step count) (j : ℕ) (hj : j < maxRows) (xs ys : List ℕ)
     (s : State p l ds step count j xs ys)
   where
-    at-low : (c : ℕ) → c < count → c * step < p
-    at-low c h = omega (arith, next-low c count step h, w .low, w .some-step)
-
     starts : Starts p l ds (take j xs) j xs ys
     unfolding start
     starts =
@@ -63,7 +60,7 @@ module _
     open-free : (c : ℕ) → c < count → openTo p l (getD ds j 0) (take j xs) (take j ys) step c ≡ freeAt p l ds (take j xs) j step c
     unfolding openTo freeAt
     open-free c h =
-        ap isNobody (told p l ds (take j xs) j xs ys starts (getD ds j 0) (c * step) _ _ (at-low c h) refl refl)
+        ap isNobody (told p l ds (take j xs) j xs ys starts (getD ds j 0) (c * step) _ _ (candidate-low p l step count w c h) refl refl)
         ∙ nobody-free p l ds (take j xs) j (getD ds j 0) (c * step)
 
     module _ (c : ℕ) (e : c ≡ least (openTo p l (getD ds j 0) (take j xs) (take j ys) step) count) where
@@ -87,7 +84,7 @@ module _
                 let low = subst (λ (x : ℕ). x < count) least-free h in
                 rw (add-one, s .done, take-suc-set xs j (c * step) room, lt-ltb _ count low, ← least-free);
             low = below-more _ j (λ i q. rw (other xs (c * step) i q) (s .low i q))
-                (rw (getD-set-same xs j (c * step) 0 room) (at-low c h));
+                (rw (getD-set-same xs j (c * step) 0 room) (candidate-low p l step count w c h));
             seconds =
                 below-more _ j (λ i q. rw (other xs (c * step) i q, other ys b i q) (s .seconds i q))
                 (rw (getD-set-same xs j (c * step) 0 room, getD-set-same ys j b 0 (omega (arith, s .ys-length))) f);

@@ -1,7 +1,7 @@
 -- What the quick planners promise, of the planner over any step and count; proofs/FirstFit says it of First Fit by name.
 -- Assumes nothing.
 use mathlib.Core.Path.{_≡_, refl, sym, ap, _∙_}
-use mathlib.Core.Logic.{_↔_, _⊎_, inl, inr}
+use mathlib.Core.Logic.{_↔_}
 use mathlib.Core.List.{List}
 use Prim.Native.Nat.{ℕ, _≤_, _<_}
 use native.Mathlib.Omega.{arith}
@@ -64,7 +64,8 @@ module _ (k : Link) (ds old : List ℕ) (step count : ℕ) where
   answers e f g = goes-on (keeping refusing old) e (rw f g)
 
   module _ (r : Planned) (new : List ℕ) (e : gives (said r) new ≡ quick k ds old step count) where
-    right-plan : GoodTable k ds → length ds ≤ length old → (os : List ℕ) → Placed (k .period) (spanOf k) ds step count (length ds) os
+    -- rows placed right, in a table in range with room for their offsets, are the plan
+    pub right-plan : GoodTable k ds → length ds ≤ length old → (os : List ℕ) → Placed (k .period) (spanOf k) ds step count (length ds) os
         → r ≡ Plan
     unfolding outcome said
     right-plan g h os w =
@@ -121,14 +122,6 @@ module _ (k : Link) (ds old : List ℕ) (step count : ℕ) where
             no-second k ds old step count r (Refused noOffset j) new old e
             (answers (sym (fine-room k ds (length old) (w .table) (w .room)))
             (stuck-is (k .period) (spanOf k) ds step count j (length ds) (w .row) (w .stuck)) refl) .0
-
-    -- a table in range, with room for its offsets, gets a plan or 13
-    pub plan-or-thirteen : GoodTable k ds → length ds ≤ length old → (r ≡ Plan) ⊎ ((j : ℕ) × (r ≡ Refused noOffset j))
-    plan-or-thirteen g h = go (says (k .period) (spanOf k) ds step count (length ds))
-      where
-        go : {o : Progress} → Says (k .period) (spanOf k) ds step count (length ds) o → (r ≡ Plan) ⊎ ((j : ℕ) × (r ≡ Refused noOffset j))
-        go (all os w) = inl (right-plan g h os w)
-        go (some-row j l s) = inr (j, thirteen-exactly j .1 (record { table = g; room = h; row = l; stuck = s }))
 
     -- row 0 is never refused
     pub row-0-has-one : 0 < count → r ≡ Refused noOffset 0 → ⊥

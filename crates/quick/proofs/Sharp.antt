@@ -1,4 +1,5 @@
--- Both bounds are sharp: just below them, for each number of rows from 2 on, there is a table whose last row gets 13. Assumes nothing.
+-- Both bounds are sharp: one below them there is a table whose last row gets 13, for each number of rows from 2 on and each size, of
+-- Meta-Offset's from 2 on. Assumes nothing.
 use mathlib.Core.Path.{_≡_, refl, ap, _∙_}
 use mathlib.Core.Logic.{inl, inr, ⊎-elim}
 use mathlib.Core.List.{List}
@@ -16,14 +17,15 @@ use Rattle.quick.specs.Loads.{fullForMetaOffset, fullForFirstFit}
 use Rattle.quick.specs.declared.Planned.{Planned}
 use Rattle.quick.specs.declared.Planned.the-variants.{Refused}
 use Rattle.quick.proofs.Candidates.{next-low}
-use Rattle.quick.proofs.Full.{Covered, last-refused}
+use Rattle.quick.proofs.Enough.{messages}
+use Rattle.quick.proofs.Full.{Spread, Covered, last-refused}
 
 -- Meta-Offset: every period, size from 2 on and number of rows from 2 on where P divided by T is 3n-3; n is u + 1
 module _ (p t u : ℕ) (rows : 1 ≤ u) (many : u < maxRows) (wide : 2 ≤ t) (low : p ≤ maxPeriod) (short : p / t ≡ 3 * u) where
   pub meta-offset-sharp : (old : List ℕ) → u < length old → (r : Planned) (new : List ℕ)
       → gives (said r) new ≡ metaOffset (record { period = p; size = t }) (fullForMetaOffset p t u) old → r ≡ Refused noOffset u
   meta-offset-sharp =
-      last-refused d p t u rows (omega arith) fits spread high t (p / t) (λ i. i) (λ i h. refl) (λ i h. omega arith) (omega arith)
+      last-refused d p t u spread t (p / t) (λ i. i) (λ i h. refl) (λ i h. omega arith) (omega arith)
       (λ c h. omega (arith, next-low c (p / t) t h, div-mul-le-self p t)) cover many low
     where
       d : ℕ → ℕ
@@ -36,17 +38,18 @@ module _ (p t u : ℕ) (rows : 1 ≤ u) (many : u < maxRows) (wide : 2 ≤ t) (l
           let g : p / t * t ≡ 3 * u * t = ap (λ (n : ℕ). n * t) short in
           omega (arith, div-mul-le-self p t)
 
-      fits : u * t ≤ p
-      fits = omega (arith, room-for-three)
-
-      spread : (i j : ℕ) → i < j → j < u → i * t + d i + t ≤ j * t + d j
-      spread i j h k = omega (arith, next-low i j t h)
-
-      high : (i : ℕ) → i < u → i * t + d i + t ≤ p
-      high i h = omega (arith, next-low i u t h, room-for-three)
+      spread : Spread d p t u
+      spread =
+          record {
+            rows = rows;
+            some = omega arith;
+            fits = omega (arith, room-for-three);
+            next = λ i j h k. omega (arith, next-low i j t h);
+            high = λ i h. omega (arith, next-low i u t h, room-for-three);
+          }
 
       -- the multiples u + 2i and u + 2i + 1 are on either side of row i's second start
-      cover : (c : ℕ) → c < p / t → u * t ≤ c * t → Covered d p t u rows (omega arith) fits spread high (c * t)
+      cover : (c : ℕ) → c < p / t → u * t ≤ c * t → Covered d p t u (c * t)
       cover c h l =
           let i = (c - u) / 2 in
           let q : u ≤ c = le-of-mul-le-mul-right l (omega arith) in
@@ -64,8 +67,8 @@ module _ (p t u : ℕ) (rows : 1 ≤ u) (many : u < maxRows) (some : 1 ≤ t) (l
   pub first-fit-sharp : (old : List ℕ) → u < length old → (r : Planned) (new : List ℕ)
       → gives (said r) new ≡ firstFit (record { period = p; size = t }) (fullForFirstFit p t u) old → r ≡ Refused noOffset u
   first-fit-sharp =
-      last-refused d p t u rows some fits spread high 1 p (λ i. i * t) (λ i h. mul-one (i * t)) (λ i h. omega (arith, high i h))
-      (omega arith) (λ c h. omega (arith, mul-one c)) cover many low
+      last-refused d p t u spread 1 p (λ i. i * t) (λ i h. mul-one (i * t)) (λ i h. omega (arith, spread .high i h)) (omega arith)
+      (λ c h. omega (arith, mul-one c)) cover many low
     where
       -- t slots are s and one more
       s : ℕ
@@ -81,19 +84,17 @@ module _ (p t u : ℕ) (rows : 1 ≤ u) (many : u < maxRows) (some : 1 ≤ t) (l
       second-at i = omega (arith, times i, suc-mul i s)
 
       whole : p ≡ u * s + (u * s + u * s) + (u + u) + s
-      whole =
-          let e : 3 * (u + 1) - 2 ≡ u + (u + (u + 1)) = omega arith in
-          let f : (3 * (u + 1) - 2) * t ≡ u * t + (u * t + (u * t + t)) = rw (e, add-mul, add-mul, add-mul, one-mul) in
-          omega (arith, times u)
+      whole = omega (arith, short, messages u t, times u)
 
-      fits : u * t ≤ p
-      fits = omega (arith, whole, times u)
-
-      spread : (i j : ℕ) → i < j → j < u → i * t + d i + t ≤ j * t + d j
-      spread i j h k = omega (arith, second-at i, second-at j, next-low i j s h)
-
-      high : (i : ℕ) → i < u → i * t + d i + t ≤ p
-      high i h = omega (arith, second-at i, next-low i u s h, whole)
+      spread : Spread d p t u
+      spread =
+          record {
+            rows = rows;
+            some = some;
+            fits = omega (arith, whole, times u);
+            next = λ i j h k. omega (arith, second-at i, second-at j, next-low i j s h);
+            high = λ i h. omega (arith, second-at i, next-low i u s h, whole);
+          }
 
       -- w offsets for each row, and the last s of the period for row 0
       w : ℕ
@@ -108,6 +109,6 @@ module _ (p t u : ℕ) (rows : 1 ≤ u) (many : u < maxRows) (some : 1 ≤ t) (l
           let some-w : 0 < w = omega arith in
           (i, div-lt-iff-lt-mul some-w .1 q, omega (arith, second-at i, by-w i, div-mul-le-self y w, lt-div-mul-add {a = y} some-w))
 
-      cover : (c : ℕ) → c < p → u * t ≤ c * 1 → Covered d p t u rows some fits spread high (c * 1)
+      cover : (c : ℕ) → c < p → u * t ≤ c * 1 → Covered d p t u (c * 1)
       cover c h l =
           ⊎-elim (λ q. inl (within (c * 1 - u * t) q)) (λ q. inr (omega (arith, whole, times u, by-w u))) (lt-or-ge (c * 1 - u * t) (u * w))

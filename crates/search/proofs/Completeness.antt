@@ -13,13 +13,13 @@ use Rattle.link.specs.Rows.{Crossing, one, two, start, startAt, hits, either}
 use Rattle.link.specs.Slots.{after}
 use Rattle.ground.proofs.Bools.{clash}
 use Rattle.ground.proofs.Series.{look}
-use Rattle.link.proofs.Circle.{Apart, Turned, apart-met}
+use Rattle.link.proofs.Circle.{Apart, Turned, apart-sym, apart-met}
 use Rattle.ground.proofs.Minimum.{some-none}
 use Rattle.link.proofs.Meeting.{start-low, neither}
+use Rattle.link.proofs.Touching.{apart-both, apart-one, start-back}
 use Rattle.search.specs.Steps.{Step, step, placed, puts, inTheWay, good, put, steps, isStep}
 use Rattle.search.proofs.Listing.{steps-have}
-use Rattle.link.proofs.Touching.{apart-both, apart-one, start-back}
-use Rattle.search.proofs.Moving.{apart-sym, offset-start}
+use Rattle.search.proofs.Offsets.{offset-start}
 use Rattle.search.proofs.Numbers.{names}
 use Rattle.search.proofs.States.{is-placed, placed-low, not-placed, put-other, put-here}
 

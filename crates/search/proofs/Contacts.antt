@@ -14,7 +14,7 @@ use Rattle.link.proofs.Circle.{after-low, meets-true, meets-slot}
 use Rattle.ground.proofs.Minimum.{some-none}
 use Rattle.link.proofs.Meeting.{neither}
 use Rattle.search.specs.Steps.{Step, placed, offsetOf, puts, inTheWay, good}
-use Rattle.search.proofs.Moving.{offset-start, start-offset}
+use Rattle.search.proofs.Offsets.{offset-start, start-offset}
 use Rattle.search.proofs.Soundness.{not-met}
 
 module _ (p l : ℕ) (ds s : List ℕ) (k : Step) (some-period : 0 < p) where

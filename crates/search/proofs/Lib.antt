@@ -8,7 +8,7 @@ pub mod Orders
 pub mod Listing
 pub mod Sequences
 pub mod Counting
-pub mod Moving
+pub mod Offsets
 pub mod States
 pub mod Completeness
 pub mod Finding

@@ -14,14 +14,13 @@ use Rattle.link.specs.Rows.{Crossing, start, startAt, hits, Clear}
 use Rattle.ground.proofs.Bools.{lt-or-ge}
 use Rattle.ground.proofs.Counting.{count-none}
 use Rattle.link.specs.Slots.{Meet}
-use Rattle.link.proofs.Circle.{Apart, apart-of}
+use Rattle.link.proofs.Circle.{Apart, apart-sym, apart-of, apart-slots, no-slot}
 use Rattle.link.proofs.Clearness.{clear-in, clear-both}
 use Rattle.ground.proofs.Minimum.{none-has}
 use Rattle.link.proofs.Meeting.{start-low, none-hit}
 use Rattle.search.specs.Steps.{Step, rules, placed, puts, inTheWay, good, put, isStep}
 use Rattle.search.specs.Builds.{Build, done, onward, leads, begin}
 use Rattle.search.proofs.Listing.{steps-are}
-use Rattle.search.proofs.Moving.{apart-sym, apart-slots, no-slot}
 use Rattle.search.proofs.Numbers.{names}
 use Rattle.search.proofs.States.{At, placed-low, puts-low, put-other, put-here, placed-other, put-at, begin-free}
 use Rattle.search.proofs.Completeness.{Plan}

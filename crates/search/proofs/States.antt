@@ -14,7 +14,7 @@ use Rattle.link.specs.Limits.{maxRows}
 use Rattle.link.proofs.Circle.{after-low}
 use Rattle.search.specs.Steps.{Step, placed, puts, put, isStep}
 use Rattle.search.specs.Builds.{begin}
-use Rattle.search.proofs.Moving.{offset-low}
+use Rattle.search.proofs.Offsets.{offset-low}
 use Rattle.search.proofs.Numbers.{names}
 
 -- u of the n rows are not placed

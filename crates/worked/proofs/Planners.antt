@@ -14,7 +14,7 @@ use Rattle.quick.specs.Loads.{LightLoad}
 use Rattle.quick.specs.Right.{Placed}
 use Rattle.quick.specs.Ways.{Ways}
 use Rattle.quick.specs.declared.Planned.the-variants.{Plan}
-use Rattle.quick.proofs.Candidates.{next-low}
+use Rattle.quick.proofs.Candidates.{candidate-low}
 use Rattle.quick.proofs.Entries.{each-offset, multiples}
 use Rattle.quick.proofs.LightLoads.{light-has-a-plan}
 use Rattle.quick.proofs.Promises.{plan-is-right, right-clear}
@@ -33,7 +33,7 @@ module _ (k : Link) (ds : List ℕ) (g : GoodTable k ds) (step count : ℕ) (w :
       inside : (i : ℕ) → i < length ds → getD os i 0 < k .period
       inside i h =
           let e = right .each i h in
-          omega (arith, e .1, next-low (e .0) count step (e .2 .candidate), w .low, w .some-step)
+          omega (arith, e .1, candidate-low _ _ step count w (e .0) (e .2 .candidate))
 
   never-none : (budget : ℕ) (list : List ℕ) (t : ℕ) (left : List ℕ) → Answers k ds budget list (None t) left → ⊥
   never-none = clear-plan-never-none k ds os choice
