@@ -48,8 +48,8 @@ module _ (k : Link) (ds : List ℕ) (g : GoodTable k ds) where
   abbrev l : ℕ
   l = spanOf k
 
-  n : length ds ≡ u + 1
-  n = omega (arith, g .rows-low)
+  rows : length ds ≡ u + 1
+  rows = omega (arith, g .rows-low)
 
   pub third-is-light : ThirdLoad k ds → LightLoad k ds
   third-is-light h = let fits = le-div-iff-mul-le (g .span-low) .1 h in omega arith
@@ -59,7 +59,7 @@ module _ (k : Link) (ds : List ℕ) (g : GoodTable k ds) where
   light-for-first-fit h = omega (arith, le-div-iff-mul-le (g .span-low) .0 h, g .rows-low)
 
   pub simple-for-first-fit : SimpleLoad k ds → FirstFitLoad k ds
-  simple-for-first-fit h = rw n (omega (arith, simple-is-enough u l p (g .span-low) (g .span-high) h))
+  simple-for-first-fit h = rw rows (omega (arith, simple-is-enough u l p (g .span-low) (g .span-high) h))
 
   -- each earlier row takes at most b of the offsets, row 0 at most e more, and there are more than all rows but the last can take
   none-stuck : (step count b e : ℕ)
@@ -82,8 +82,7 @@ module _ (k : Link) (ds : List ℕ) (g : GoodTable k ds) where
 
   -- row 0 takes 4l-2 offsets and each later one 3l-1
   pub offsets-enough : FirstFitLoad k ds → NoneStuck k ds 1 p
-  offsets-enough light =
-      none-stuck 1 p (l + w) (l - 1) each (omega (arith, rw n at light, all, messages u l, g .span-low))
+  offsets-enough light = none-stuck 1 p (l + w) (l - 1) each (omega (arith, rw rows at light, all, messages u l, g .span-low))
     where
       -- the slots in which a start meets a row
       w : ℕ
