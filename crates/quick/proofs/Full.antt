@@ -87,7 +87,7 @@ module _ (d : ℕ → ℕ) (p t u : ℕ) (w : Spread d p t u) where
   met-two a i h k l near =
       let top = w .high i h in
       hit-either _ two i (rw (stands i h, second-of i h, last-of a k l)
-      (near-met p t (i * t + d i) (a - u * t) (omega arith) (omega arith) (omega arith) (λ w. omega arith)))
+      (near-met p t (i * t + d i) (a - u * t) (omega arith) (omega arith) (omega arith) (λ apart. omega arith)))
 
   -- a row before the last meets nobody where it stands, and an earlier row at each smaller offset
   not-met : (i j : ℕ) → i < j → j < u → either (hits p t ds os (getD ds j 0) (j * t)) i ≡ false
@@ -109,13 +109,13 @@ module _ (d : ℕ → ℕ) (p t u : ℕ) (w : Spread d p t u) where
       let most = mul-le-mul-right t h in
       let from = div-mul-le-self a t in
       let to = lt-div-mul-add {a = a} (w .some) in
-      (i, q, met-one j a i (omega arith) (omega arith) (λ w. omega arith))
+      (i, q, met-one j a i (omega arith) (omega arith) (λ apart. omega arith))
 
   last-met : (a : ℕ) → a < p → (u * t ≤ a → Covered d p t u a) → MeetsOne u u a
   last-met a l cover =
       ⊎-elim (λ b. met-before u u a (omega arith) b)
       (λ b. ⊎-elim (λ v. (v .0, v .1, met-two a (v .0) (v .1) b l (v .2)))
-      (λ over. (0, w .rows, met-one u a 0 (w .rows) l (λ v. omega (arith, zero-mul t)))) (cover b)) (lt-or-ge a (u * t))
+      (λ over. (0, w .rows, met-one u a 0 (w .rows) l (λ apart. omega (arith, zero-mul t)))) (cover b)) (lt-or-ge a (u * t))
 
   in-range : u < maxRows → p ≤ maxPeriod → GoodTable (record { period = p; size = t }) ds
   in-range many low =
