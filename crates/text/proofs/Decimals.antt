@@ -1,18 +1,22 @@
--- What a decimal number is, and the bound on its value. Assumes nothing.
-use mathlib.Core.Path.{_≡_, refl, ap, _∙_}
+-- What a decimal number is, and its value digit by digit, with the bound on it. Assumes nothing.
+use mathlib.Core.Path.{_≡_, refl, sym, ap, _∙_}
 use mathlib.Core.Bool.{true, false, not, _&&_}
 use mathlib.Core.List.{List, [], _∷_, _++_}
 use Prim.Native.Nat.{ℕ, zero, suc, _+_, _-_, _*_, _≤_, _<_, _^_}
+use native.Mathlib.Numerals.{add-one}
 use native.Mathlib.Omega.{arith}
 use native.Mathlib.Nat.{pow-suc, pow-le-pow-right}
 use lib.ListN.{length, getD, take}
-use lib.Seq.{take-suc}
+use lib.Seq.{take-suc, take-length}
+use borrow.Author.Count.{below-more, below-none}
 use borrow.Author.Tests.{not-true}
 use Rattle.ground.specs.Judging.{outside}
 use Rattle.ground.proofs.Bools.{and-parts, and-both}
-use Rattle.ground.proofs.Minimum.{none-has, some-none}
+use Rattle.ground.proofs.Minimum.{none-has, some-at, some-none}
 use Rattle.ground.proofs.Faults.{inside, within}
 use Rattle.text.specs.Decimal.{maxDigits, naught, nine, isOther, allDigits, leadingZero, isDecimal, valueFrom, value}
+use Rattle.text.specs.Steps.{digitsSay}
+use Rattle.text.specs.declared.decimal.Number.the-variants.{Is, Not as NoNumber}
 
 abbrev pub Digits : List ℕ → Type 0
 Digits bs = (i : ℕ) → i < length bs → isOther (getD bs i 0) ≡ false
@@ -51,19 +55,52 @@ unfolding valueFrom
 value-from-more n [] b = refl
 value-from-more n (x ∷ bs) b = value-from-more (n * 10 + (x - naught)) bs b
 
-pub value-more : (bs : List ℕ) (i : ℕ) → i < length bs → value (take (suc i) bs) ≡ value (take i bs) * 10 + (getD bs i 0 - naught)
-value-more bs i l = ap value (take-suc bs i 0 l) ∙ value-from-more 0 (take i bs) (getD bs i 0)
+-- The code stands at byte i: those before it are digits, and v is their value.
+pub record Counted (bs : List ℕ) (i v : ℕ) : Type 0 where
+  pub inside : i ≤ length bs
+  pub digits : (j : ℕ) → j < i → isOther (getD bs j 0) ≡ false
+  pub so-far : v ≡ value (take i bs)
 
--- a number of k digits is below the k-th power of ten
-value-low : (bs : List ℕ) → Digits bs → (k : ℕ) → k ≤ length bs → value (take k bs) < 10 ^ k
+pub none-counted : (bs : List ℕ) → Counted bs 0 0
 unfolding valueFrom
-value-low bs d zero l = omega arith
-value-low bs d (suc k) l =
-    let p : 10 ^ suc k ≡ 10 ^ k * 10 = pow-suc 10 k in
-    omega (arith, value-low bs d k (omega arith), value-more bs k (omega arith), digit (getD bs k 0) (d k (omega arith)))
+none-counted bs = record { inside = omega arith; digits = below-none _; so-far = refl }
 
--- before its last digit it is below ten million
-pub part-low : (bs : List ℕ) → Decimal bs → (i : ℕ) → i < length bs → value (take i bs) < 10 ^ 7
-part-low bs d i l =
-    let p : 10 ^ i ≤ 10 ^ 7 = pow-le-pow-right (omega arith) {i = i} {j = 7} (omega (arith, d .short)) in
-    omega (arith, value-low bs (d .digits) i (omega arith))
+module _ (bs : List ℕ) where
+  value-more : (i : ℕ) → i < length bs → value (take (suc i) bs) ≡ value (take i bs) * 10 + (getD bs i 0 - naught)
+  value-more i l = ap value (take-suc bs i 0 l) ∙ value-from-more 0 (take i bs) (getD bs i 0)
+
+  -- a number of k digits is below the k-th power of ten
+  value-low : (k : ℕ) → ((j : ℕ) → j < k → isOther (getD bs j 0) ≡ false) → k ≤ length bs → value (take k bs) < 10 ^ k
+  unfolding valueFrom
+  value-low zero d l = omega arith
+  value-low (suc k) d l =
+      let p : 10 ^ suc k ≡ 10 ^ k * 10 = pow-suc 10 k in
+      let b = digit (getD bs k 0) (d k (omega arith)) in
+      omega (arith, value-low k (λ j m. d j (omega arith)) (omega arith), value-more k (omega arith))
+
+  module _ (i v : ℕ) (w : Counted bs i v) where
+    module _ (l : i < length bs) where
+      -- before its last digit a number is below ten million
+      pub counted-low : length bs ≤ maxDigits → v < 10 ^ 7
+      counted-low h =
+          let p : 10 ^ i ≤ 10 ^ 7 = pow-le-pow-right (omega arith) {i = i} {j = 7} (omega arith) in
+          omega (arith, w .so-far, value-low i (w .digits) (w .inside))
+
+      pub counted-more : isOther (getD bs i 0) ≡ false → Counted bs (i + 1) (v * 10 + (getD bs i 0 - naught))
+      counted-more d = record {
+        inside = omega arith;
+        digits = below-more _ i (w .digits) d;
+        so-far = rw (add-one, w .so-far) (sym (value-more i l));
+      }
+
+      pub other-there : isOther (getD bs i 0) ≡ true → NoNumber ≡ digitsSay bs
+      unfolding digitsSay allDigits
+      other-there e = rw (some-at (λ j. isOther (getD bs j 0)) (length bs) i l e)
+
+    pub all-counted : length bs ≤ i → Is v ≡ digitsSay bs
+    unfolding digitsSay allDigits
+    all-counted h =
+        let n : i ≡ length bs = omega (arith, w .inside) in
+        let d = some-none (λ j. isOther (getD bs j 0)) (length bs) (λ j m. w .digits j (omega arith)) in
+        let e : v ≡ value bs = w .so-far ∙ rw (n, take-length) in
+        rw (d, e)

@@ -3,9 +3,9 @@ pub mod Decimals
 pub mod LineForms
 pub mod GoodLines
 pub mod Lined
+pub mod Values
 pub mod Walk
 pub mod Right
-pub mod Values
 pub mod Answers
 pub mod Spelling
 pub mod Finding
@@ -13,6 +13,7 @@ pub mod Gluing
 pub mod Forms
 pub mod Texts
 pub mod Taken
+pub mod Cutting
 pub mod Lost
 pub mod Places
 pub mod Saying

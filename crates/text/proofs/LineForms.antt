@@ -3,32 +3,39 @@ use mathlib.Core.Path.{_≡_, refl, sym, ap, _∙_}
 use mathlib.Core.Bool.{Bool, true, false, not, cond, and-false}
 use mathlib.Core.List.{List, [], _∷_}
 use mathlib.Core.Logic.{⊎-elim}
-use Prim.Native.Nat.{ℕ, zero, suc, _+_, _-_, _≤_, _<_}
+use Prim.Native.Nat.{ℕ, suc, _+_, _-_, _≤_, _<_}
 use native.Mathlib.Numerals.{add-one}
 use native.Mathlib.Omega.{arith}
-use lib.Dec.{eqb}
+use lib.Dec.{ltb, leb, eqb}
 use lib.ListN.{length, take, drop, drop-of-length-le}
-use Rattle.ground.specs.Judging.{Cause, first}
+use borrow.Author.Tests.{lt-ltb, le-ltb, le-leb, lt-leb, eq-eqb, ne-eqb}
+use Rattle.ground.specs.Judging.{Cause, when, first}
 use Rattle.ground.specs.declared.Judged.{Judged}
 use Rattle.ground.specs.declared.Judged.the-variants.{Fine, Fault}
-use Rattle.ground.proofs.Bools.{clash, and-parts, lt-or-ge}
+use Rattle.ground.proofs.Answers.{refused, goes-on}
+use Rattle.ground.proofs.Bools.{clash, and-parts, lt-or-ge, never}
 use Rattle.ground.proofs.Beginning.{begins-with}
-use Rattle.ground.proofs.Faults.{below, pass}
+use Rattle.ground.proofs.Faults.{below, hit, pass, fine}
 use Rattle.ground.proofs.Filling.{tail-part}
+use Rattle.link.specs.Limits.{maxDelay, maxRows, badDelay, badRows}
 use Rattle.link.specs.Refusal.{linkFaults}
 use Rattle.link.specs.declared.Link.{Link}
-use Rattle.text.specs.Limits.{badLine}
+use Rattle.text.specs.Limits.{badLine, badCount}
 use Rattle.text.specs.Bytes.{space, seek, endWord}
 use Rattle.text.specs.Decimal.{maxDigits, isDecimal, value}
-use Rattle.text.specs.Faults.{firstPart, secondPart, isPair, linkOf, isLast, countPart, placedAt, titleFaults, pairFaults, lastFaults}
-use Rattle.text.specs.Faults.{rowFaults, ownFaults}
+use Rattle.text.specs.Faults.{firstPart, secondPart, isPair, linkOf, isLast, countPart, placedAt, pairFaults, rowFaults, lastFaults}
+use Rattle.text.specs.Steps.{numberSays, numbersSay, pairSays, rowSays, lastSays}
+use Rattle.text.specs.declared.decimal.Number.the-variants.{Is, Not as NoNumber}
+use Rattle.text.specs.declared.judge.Numbers.the-variants.{Are, Not}
+use Rattle.text.specs.declared.judge.Head.the-variants.{Rows, Wrong as WrongHead}
+use Rattle.text.specs.declared.judge.Line.the-variants.{More, Last, Wrong}
 
 no-number : isDecimal [] ≡ false
 unfolding isDecimal
 no-number = rw (below 1 maxDigits 0 (omega arith))
 
 -- a line without a space is no pair
-pub no-space : (l : List ℕ) → length l ≤ seek space l → isPair l ≡ false
+no-space : (l : List ℕ) → length l ≤ seek space l → isPair l ≡ false
 unfolding isPair secondPart
 no-space l h = rw (drop-of-length-le l {i = suc (seek space l)} (omega arith), no-number, and-false)
 
@@ -48,29 +55,54 @@ count-part : (l : List ℕ) → take (length l - 4) (drop 4 l) ≡ countPart l
 unfolding countPart
 count-part l = tail-part l 4
 
-pub not-number : (l : List ℕ) {r b : Bool} → r ≡ isDecimal (take (length l - 4) (drop 4 l)) → not r ≡ b → not (isDecimal (countPart l)) ≡ b
-not-number l e f = ap not (ap isDecimal (sym (count-part l)) ∙ sym e) ∙ f
+-- which of two answers was given
+chosen : {A : Type 0} (b : Bool) {x y z : A} → (x ≡ z → ⊥) → x ≡ cond b y z → (b ≡ true) × (x ≡ y)
+chosen true f e = (refl, e)
+chosen false f e = absurd (f e)
 
-pub count-said : (l : List ℕ) (v n : ℕ) (b : Bool) → v ≡ value (take (length l - 4) (drop 4 l)) → eqb v n ≡ b
-    → not (eqb (value (countPart l)) n) ≡ not b
-count-said l v n b e f = ap not (ap (λ (v : ℕ). eqb v n) (ap value (sym (count-part l)) ∙ sym e) ∙ f)
+not-chosen : {A : Type 0} (b : Bool) {x y z : A} → (x ≡ y → ⊥) → x ≡ cond b y z → (b ≡ false) × (x ≡ z)
+not-chosen true f e = absurd (f e)
+not-chosen false f e = (refl, e)
 
--- the number behind the space of line two
-pub second-part : (l : List ℕ) (k : ℕ) → k ≡ seek space l → take (length l - (k + 1)) (drop (k + 1) l) ≡ secondPart l
-unfolding secondPart
-second-part l k e = tail-part l (k + 1) ∙ rw (add-one, e)
+-- what is read of a number
+number : (bs : List ℕ) (v : ℕ) → Is v ≡ numberSays bs → (isDecimal bs ≡ true) × (v ≡ value bs)
+unfolding numberSays
+number bs v e = let w = chosen (isDecimal bs) (λ f. never cc) e in (w .0, cc (w .1))
 
-pub first-part : (l : List ℕ) (k : ℕ) → k ≡ seek space l → take k l ≡ firstPart l
-unfolding firstPart
-first-part l k e = rw e
+none : (bs : List ℕ) → NoNumber ≡ numberSays bs → isDecimal bs ≡ false
+unfolding numberSays
+none bs e = not-chosen (isDecimal bs) (λ f. never cc) e .0
 
-pub next-low : (l : List ℕ) (k : ℕ) → k ≡ seek space l → seek space l < length l → k + 1 ≤ length l
-next-low l k e h = omega arith
+-- line two, with its first space at k
+module _ (l : List ℕ) (k : ℕ) (e : k ≡ seek space l) where
+  -- the numbers before the space and behind it, as the code takes them
+  first-part : take k l ≡ firstPart l
+  unfolding firstPart
+  first-part = rw e
 
-pub link-made : (l : List ℕ) (p s : ℕ) → p ≡ value (firstPart l) → s ≡ value (secondPart l)
-    → _≡_ {A = Link} (record { period = p; size = s }) (linkOf l)
-unfolding linkOf
-link-made l p s e f = rw (e, f)
+  second-part : take (length l - (k + 1)) (drop (k + 1) l) ≡ secondPart l
+  unfolding secondPart
+  second-part = tail-part l (k + 1) ∙ rw (add-one, e)
+
+  pub first-not : NoNumber ≡ numberSays (take k l) → Not ≡ numbersSay l
+  unfolding numbersSay isPair
+  first-not f = rw (none (firstPart l) (rw first-part at f))
+
+  pub second-not : NoNumber ≡ numberSays (take (length l - (k + 1)) (drop (k + 1) l)) → Not ≡ numbersSay l
+  unfolding numbersSay isPair
+  second-not f = rw (none (secondPart l) (rw second-part at f), and-false)
+
+  pub both : (p s : ℕ) → Is p ≡ numberSays (take k l) → Is s ≡ numberSays (take (length l - (k + 1)) (drop (k + 1) l))
+      → Are (record { period = p; size = s }) ≡ numbersSay l
+  unfolding numbersSay isPair linkOf
+  both p s f g =
+      let a = number (firstPart l) p (rw first-part at f) in
+      let b = number (secondPart l) s (rw second-part at g) in
+      rw (a .0, b .0, a .1, b .1)
+
+pub no-numbers : (l : List ℕ) → length l ≤ seek space l → Not ≡ numbersSay l
+unfolding numbersSay
+no-numbers l h = rw (no-space l h)
 
 -- the same faults at another place
 abbrev pub moved : ℕ → Judged → Judged
@@ -87,24 +119,79 @@ placed at (c ∷ cs) = go (c .applies) (placed at cs)
     go true e = refl
     go false e = e
 
+-- what is read of line two
+pair : (l : List ℕ) (k : Link) → Are k ≡ numbersSay l → (isPair l ≡ true) × (k ≡ linkOf l)
+unfolding numbersSay
+pair l k e = let w = chosen (isPair l) (λ f. never cc) e in (w .0, cc (w .1))
+
+no-pair : (l : List ℕ) → Not ≡ numbersSay l → isPair l ≡ false
+unfolding numbersSay
+no-pair l e = not-chosen (isPair l) (λ f. never cc) e .0
+
 -- line two: its form, then the values of the link at this place
-pub pair-judged : (l : List ℕ) (at : ℕ) (j : Judged) → isPair l ≡ true → j ≡ first (linkFaults (linkOf l))
-    → moved at j ≡ first (pairFaults l at)
-unfolding pairFaults
-pair-judged l at j e f = pass _ _ badLine at (ap not e) (ap (moved at) f ∙ sym (placed at (linkFaults (linkOf l))))
+module _ (l : List ℕ) (at next : ℕ) where
+  pub pair-wrong : Not ≡ numbersSay l → WrongHead badLine at ≡ pairSays l at next
+  unfolding pairFaults
+  pair-wrong e = refused WrongHead _ (sym (hit _ _ badLine at (ap not (no-pair l e))))
 
-pub own-title : (k : ℕ) → k ≡ 0 → (l : List ℕ) (at : ℕ) → ownFaults k l at ≡ titleFaults l at
-unfolding ownFaults
-own-title k e l at = rw e
+  module _ (k : Link) (e : Are k ≡ numbersSay l) where
+    pair-judged : (j : Judged) → j ≡ first (linkFaults k) → first (pairFaults l at) ≡ moved at j
+    unfolding pairFaults
+    pair-judged j f =
+        let w = pair l k e in
+        sym (pass _ _ badLine at (ap not (w .0)) (ap (moved at) (rw (w .1) at f) ∙ sym (placed at (linkFaults (linkOf l)))))
 
-pub own-pair : (k : ℕ) → k ≡ 1 → (l : List ℕ) (at : ℕ) → ownFaults k l at ≡ pairFaults l at
-unfolding ownFaults
-own-pair k e l at = rw e
+    pub values-wrong : (n p : ℕ) → Fault n p ≡ first (linkFaults k) → WrongHead n at ≡ pairSays l at next
+    values-wrong n p f = refused WrongHead _ (pair-judged (Fault n p) f)
 
--- from the third line on
-pub own-other : (k : ℕ) → (k ≡ 0 → ⊥) → (k ≡ 1 → ⊥) → (l : List ℕ) (at : ℕ) (b : Bool) → isLast l ≡ b
-    → ownFaults k l at ≡ cond b (lastFaults (k - 2) l at) (rowFaults (k - 2) l at)
-unfolding ownFaults
-own-other zero h g l at b e = absurd (h refl)
-own-other (suc zero) h g l at b e = absurd (g refl)
-own-other (suc (suc n)) h g l at b e = let z : suc (suc n) - 2 ≡ n = omega arith in rw (z, e)
+    pub pair-right : Fine ≡ first (linkFaults k) → Rows k next ≡ pairSays l at next
+    pair-right f = goes-on WrongHead (pair-judged Fine f) (rw (pair l k e .1))
+
+-- a row behind n others: its form, its value, and how many came
+module _ (n : ℕ) (l : List ℕ) (at next : ℕ) where
+  pub row-form : NoNumber ≡ numberSays l → Wrong badLine at ≡ rowSays n l at next
+  unfolding rowFaults
+  row-form e = refused Wrong _ (sym (hit _ _ badLine at (ap not (none l e))))
+
+  module _ (v : ℕ) (e : Is v ≡ numberSays l) where
+    row-judged : (j : Judged) → j ≡ first (when (ltb maxDelay v) badDelay at ∷ when (leb maxRows n) badRows at ∷ [])
+        → first (rowFaults n l at) ≡ j
+    unfolding rowFaults
+    row-judged j f = let w = number l v e in sym (pass _ _ badLine at (ap not (w .0)) (rw (w .1) at f))
+
+    pub row-large : maxDelay < v → Wrong badDelay at ≡ rowSays n l at next
+    row-large h = refused Wrong _ (row-judged _ (hit _ _ badDelay at (lt-ltb _ _ h)))
+
+    module _ (h : v ≤ maxDelay) where
+      pub row-many : maxRows ≤ n → Wrong badRows at ≡ rowSays n l at next
+      row-many m = refused Wrong _ (row-judged _ (pass _ _ badDelay at (le-ltb _ _ h) (hit _ _ badRows at (le-leb _ _ m))))
+
+      pub row-right : n < maxRows → More v next ≡ rowSays n l at next
+      row-right m =
+          goes-on Wrong (row-judged _ (pass _ _ badDelay at (le-ltb _ _ h) (pass _ _ badRows at (lt-leb _ _ m) fine)))
+          (ap (λ (w : ℕ). More w next) (number l v e .1))
+
+-- the last line behind n rows: its form, a row before it, and its count
+module _ (n : ℕ) (l : List ℕ) (at next : ℕ) where
+  pub last-form : NoNumber ≡ numberSays (take (length l - 4) (drop 4 l)) → Wrong badLine at ≡ lastSays n l at next
+  unfolding lastFaults
+  last-form e = refused Wrong _ (sym (hit _ _ badLine at (ap not (none (countPart l) (rw (count-part l) at e)))))
+
+  module _ (v : ℕ) (e : Is v ≡ numberSays (take (length l - 4) (drop 4 l))) where
+    last-judged : (j : Judged) → j ≡ first (when (eqb n 0) badRows at ∷ when (not (eqb v n)) badCount at ∷ [])
+        → first (lastFaults n l at) ≡ j
+    unfolding lastFaults
+    last-judged j f =
+        let w = number (countPart l) v (rw (count-part l) at e) in
+        sym (pass _ _ badLine at (ap not (w .0)) (rw (w .1) at f))
+
+    pub last-alone : n ≡ 0 → Wrong badRows at ≡ lastSays n l at next
+    last-alone h = refused Wrong _ (last-judged _ (hit _ _ badRows at (eq-eqb _ _ h)))
+
+    module _ (h : n ≡ 0 → ⊥) where
+      pub last-other : (v ≡ n → ⊥) → Wrong badCount at ≡ lastSays n l at next
+      last-other m = refused Wrong _ (last-judged _ (pass _ _ badRows at (ne-eqb _ _ h) (hit _ _ badCount at (ap not (ne-eqb _ _ m)))))
+
+      pub last-right : v ≡ n → Last next ≡ lastSays n l at next
+      last-right m =
+          goes-on Wrong (last-judged _ (pass _ _ badRows at (ne-eqb _ _ h) (pass _ _ badCount at (ap not (eq-eqb _ _ m)) fine))) refl

@@ -1,68 +1,88 @@
 -- How the code shows what a line says, from the place where it begins. Assumes nothing.
-use mathlib.Core.Path.{_≡_, sym, ap, _∙_}
-use mathlib.Core.Bool.{Bool, true, false, not, _&&_}
+use mathlib.Core.Path.{_≡_, refl, sym, ap, _∙_}
+use mathlib.Core.Bool.{true, false, not}
 use mathlib.Core.List.{List}
 use Prim.Native.Nat.{ℕ, suc, _+_, _-_, _≤_, _<_}
 use native.Mathlib.Omega.{arith}
-use lib.Dec.{ltb}
+use lib.Dec.{leb}
 use lib.ListN.{length, take, drop, length-drop}
-use borrow.Author.Tests.{lt-ltb, le-ltb}
+use borrow.Author.Tests.{lt-ltb, le-ltb, leb-true, leb-false}
 use Rattle.ground.specs.Judging.{first}
-use Rattle.ground.specs.declared.Judged.{Judged}
+use Rattle.ground.specs.declared.Judged.the-variants.{Fault}
+use Rattle.ground.proofs.Answers.{refused}
 use Rattle.ground.proofs.Faults.{hit, pass}
 use Rattle.ground.proofs.Filling.{middle-part}
 use Rattle.text.specs.Limits.{cutLine}
-use Rattle.text.specs.declared.Line.the-variants.{Wrong}
 use Rattle.text.specs.Bytes.{newline, seek}
-use Rattle.text.specs.Lines.{nextLine, begin, lineFrom, endedFrom, line}
-use Rattle.text.specs.Faults.{isLast, ownFaults}
-use Rattle.text.specs.Steps.{lineIf, lineSays}
+use Rattle.text.specs.Lines.{nextLine, lineFrom, endedFrom}
+use Rattle.text.specs.Faults.{isLast, titleFaults, ownFaults}
+use Rattle.text.specs.Steps.{faultsFrom, pairSays, lastSays, rowSays, secondSays, lineSays}
+use Rattle.text.specs.declared.judge.Head.{Head}
+use Rattle.text.specs.declared.judge.Head.the-variants.{Wrong as WrongHead}
+use Rattle.text.specs.declared.judge.Line.{Line}
+use Rattle.text.specs.declared.judge.Line.the-variants.{Wrong}
 
-module _ (x : List ℕ) (at : ℕ) where
-  whole-line : at + seek newline (drop at x) < length x → endedFrom x at ≡ true
-  unfolding endedFrom
-  whole-line h = lt-ltb (seek newline (drop at x)) (length (drop at x)) (omega (arith, length-drop at x))
+-- the line that begins at `at`, and ends at e if a byte 10 remains
+module _ (x : List ℕ) (at e : ℕ) (h : e ≡ at + seek newline (drop at x)) where
+  -- none remains: 3
+  module _ (i : at ≤ length x) (c : leb (length x) e ≡ true) where
+    pub line-cut : (k : ℕ) → first (faultsFrom x at k) ≡ Fault cutLine at
+    unfolding faultsFrom endedFrom
+    line-cut k =
+        let l : length (drop at x) ≤ seek newline (drop at x) = omega (arith, leb-true (length x) e c, length-drop at x) in
+        sym (hit _ _ cutLine at (ap not (le-ltb (seek newline (drop at x)) (length (drop at x)) l)))
 
-  -- the line as the code takes it, up to the place e
-  line-part : (e : ℕ) → e ≡ at + seek newline (drop at x) → take (e - at) (drop at x) ≡ lineFrom x at
+    pub second-cut : WrongHead cutLine at ≡ secondSays x at
+    unfolding secondSays
+    second-cut = refused WrongHead _ (line-cut 1)
+
+    pub next-cut : (n : ℕ) → Wrong cutLine at ≡ lineSays x at n
+    unfolding lineSays
+    next-cut n = refused Wrong _ (line-cut (suc (suc n)))
+
+  -- the line as the code takes it, and the place behind it
+  line-part : take (e - at) (drop at x) ≡ lineFrom x at
   unfolding lineFrom
-  line-part e h = middle-part x at _ e h
+  line-part = middle-part x at _ e h
 
-  next-part : (e : ℕ) → e ≡ at + seek newline (drop at x) → e + 1 ≡ nextLine x at
+  pub next-part : e + 1 ≡ nextLine x at
   unfolding nextLine
-  next-part e h = rw h
+  next-part = rw h
 
-  pub line-cut : (k : ℕ) → at ≤ length x → length x ≤ at + seek newline (drop at x) → Wrong cutLine at ≡ lineSays x at k
-  unfolding lineSays endedFrom
-  line-cut k i h =
-      let e : ltb (seek newline (drop at x)) (length (drop at x)) ≡ false = le-ltb (seek newline (drop at x)) (length (drop at x))
-      (omega (arith, length-drop at x)) in
-      ap (λ (j : Judged). lineIf j (ltb 1 k && isLast (lineFrom x at)) (nextLine x at)) (hit _ _ cutLine at (ap not e))
+  -- one remains
+  module _ (c : leb (length x) e ≡ false) where
+    pub next-low : e + 1 ≤ length x
+    next-low = omega (arith, leb-false (length x) e c)
 
-  line-judged : (k : ℕ) (j : Judged) (b : Bool) → at + seek newline (drop at x) < length x
-      → j ≡ first (ownFaults k (lineFrom x at) at) → b ≡ (ltb 1 k && isLast (lineFrom x at))
-      → lineIf j b (nextLine x at) ≡ lineSays x at k
-  unfolding lineSays
-  line-judged k j b h e f = rw f (ap (λ (j : Judged). lineIf j (ltb 1 k && isLast (lineFrom x at)) (nextLine x at))
-      (pass _ _ cutLine at (ap not (whole-line h)) e))
+    line-own : (k : ℕ) → first (faultsFrom x at k) ≡ first (ownFaults k (lineFrom x at) at)
+    unfolding faultsFrom endedFrom
+    line-own k =
+        let l : seek newline (drop at x) < length (drop at x) = omega (arith, leb-false (length x) e c, length-drop at x) in
+        sym (pass _ _ cutLine at (ap not (lt-ltb (seek newline (drop at x)) (length (drop at x)) l)) refl)
 
-  -- with the line as the code takes it
-  pub line-answer : (k e : ℕ) (j : Judged) (b : Bool) → e ≡ at + seek newline (drop at x) → e < length x
-      → j ≡ first (ownFaults k (take (e - at) (drop at x)) at) → b ≡ (ltb 1 k && isLast (take (e - at) (drop at x)))
-      → lineIf j b (e + 1) ≡ lineSays x at k
-  line-answer k e j b h l o f =
-      ap (λ (n : ℕ). lineIf j b n) (next-part e h)
-      ∙ line-judged k j b (omega arith) (o ∙ ap (λ (s : List ℕ). first (ownFaults k s at)) (line-part e h))
-      (f ∙ ap (λ (s : List ℕ). ltb 1 k && isLast s) (line-part e h))
+    pub second-answer : (r : Head) → r ≡ pairSays (take (e - at) (drop at x)) at (e + 1) → r ≡ secondSays x at
+    unfolding secondSays ownFaults
+    second-answer r f = rw (line-own 1) (rw (line-part, next-part) at f)
 
-pub early : (k : ℕ) (b : Bool) → k < 2 → false ≡ (ltb 1 k && b)
-early k b h = rw (le-ltb 1 k (omega arith))
+    module _ (n : ℕ) (r : Line) where
+      pub last-answer : isLast (take (e - at) (drop at x)) ≡ true → r ≡ lastSays n (take (e - at) (drop at x)) at (e + 1)
+          → r ≡ lineSays x at n
+      unfolding lineSays ownFaults
+      last-answer t f =
+          let l : isLast (lineFrom x at) ≡ true = rw line-part at t in
+          rw (line-own (suc (suc n)), l) (rw (line-part, next-part) at f)
 
-pub later : (k : ℕ) (b y : Bool) → 2 ≤ k → b ≡ y → y ≡ (ltb 1 k && b)
-later k b y h e = rw (lt-ltb 1 k h) (sym e)
+      pub row-answer : isLast (take (e - at) (drop at x)) ≡ false → r ≡ rowSays n (take (e - at) (drop at x)) at (e + 1)
+          → r ≡ lineSays x at n
+      unfolding lineSays ownFaults
+      row-answer t f =
+          let l : isLast (lineFrom x at) ≡ false = rw line-part at t in
+          rw (line-own (suc (suc n)), l) (rw (line-part, next-part) at f)
 
--- line k as the code takes it, and the place behind it
-pub at-line : (x : List ℕ) (k at e : ℕ) → at ≡ begin x k → e ≡ at + seek newline (drop at x)
-    → (take (e - at) (drop at x) ≡ line x k) × (e + 1 ≡ begin x (suc k))
-unfolding begin
-at-line x k at e p h = (line-part x at e h ∙ ap (lineFrom x) p, next-part x at e h ∙ ap (nextLine x) p)
+-- line one, as the code takes it
+pub title-judged : (x : List ℕ) (e : ℕ) → e ≡ 0 + seek newline (drop 0 x) → leb (length x) e ≡ false
+    → first (faultsFrom x 0 0) ≡ first (titleFaults (take e x) 0)
+unfolding ownFaults
+title-judged x e h c =
+    let z : e - 0 ≡ e = omega arith in
+    line-own x 0 e h c 0 ∙ ap (λ (l : List ℕ). first (titleFaults l 0)) (sym (rw z at (line-part x 0 e h)))

@@ -9,7 +9,7 @@ use Rattle.ground.specs.Lent.{onFront}
 use Rattle.ground.specs.Protocol.{gives}
 use Rattle.ground.specs.declared.Judged.{Judged}
 use Rattle.ground.specs.declared.Judged.the-variants.{Fine, Fault}
-use Rattle.ground.proofs.Answers.{no-second as one-said, no-second-outcome}
+use Rattle.ground.proofs.Answers.{no-second-outcome}
 use Rattle.link.specs.Range.{GoodTable}
 use Rattle.link.specs.declared.Link.{Link}
 use Rattle.text.specs.declared.Read.{Read}
@@ -18,7 +18,7 @@ use Rattle.text.specs.declared.Text.{Text}
 use Rattle.text.specs.Bytes.{newline}
 use Rattle.text.specs.Faults.{rowsOf, readFaults}
 use Rattle.text.specs.Answer.{said, tableLink, reading}
-use Rattle.text.specs.TextAnswer.{textSaid, judging}
+use Rattle.text.specs.TextAnswer.{textSaid, readingText}
 use Rattle.text.specs.Writing.{textOf}
 use Rattle.text.specs.Meaning.{TableOf, RefusalOf, Means}
 use Rattle.text.proofs.Saying.{unsaid, again, textUnsaid, text-again}
@@ -33,9 +33,10 @@ pub no-second : (x old : List ℕ) (r s : Read) (new other : List ℕ) → gives
     → gives (said s) other ≡ reading x old → (r ≡ s) × (new ≡ other)
 no-second x old r s new other = no-second-outcome said unsaid again
 
--- and of `judge_text`
-pub no-second-text : (x : List ℕ) (r s : Text) → textSaid r ≡ judging x → textSaid s ≡ judging x → r ≡ s
-no-second-text x r s = one-said textSaid textUnsaid text-again
+-- and of `read_text`
+pub no-second-text : (x old : List ℕ) (r s : Text) (new other : List ℕ) → gives (textSaid r) new ≡ readingText x old
+    → gives (textSaid s) other ≡ readingText x old → (r ≡ s) × (new ≡ other)
+no-second-text x old r s new other = no-second-outcome textSaid textUnsaid text-again
 
 -- Any bytes, of any length, end in a table, whose text they are, or in a refusal of 1 to 11 at a byte of the text or its end.
 pub table-or-refusal : (x old : List ℕ) (r : Read) (new : List ℕ) → gives (said r) new ≡ reading x old → Means x old r new

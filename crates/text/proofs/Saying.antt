@@ -23,10 +23,10 @@ abbrev pub textUnsaid : TextSaid → Text
 textUnsaid s = back (s .verdict) s
   where
     back : TextVerdict → TextSaid → Text
-    back whole s = Whole (s .rows) (s .end)
+    back whole s = Whole (s .link) (s .rows) (s .end)
     back breach s = Broken (s .number) (s .place)
 
 pub text-again : (r : Text) → textUnsaid (textSaid r) ≡ r
 unfolding textSaid
-text-again (Whole n e) = refl
+text-again (Whole k n e) = refl
 text-again (Broken n p) = refl

@@ -1,12 +1,12 @@
--- An accepted text is the text of its table. Assumes nothing.
+-- A text with nothing wrong begins with the text of its table, and an accepted one is that text. Assumes nothing.
 use mathlib.Core.Path.{_≡_, sym, ap, _∙_}
 use mathlib.Core.List.{List, [], _∷_, _++_, map, map-append}
 use mathlib.Core.Logic.{⊎-elim}
 use Prim.Native.Nat.{ℕ, zero, suc, _≤_, _<_}
 use native.Mathlib.Omega.{arith}
 use lib.Dec.{ltb}
-use lib.ListN.{length, getD, drop, List·getD-append}
-use lib.Seq.{getD-at, take-at}
+use lib.ListN.{length, getD, take, drop, List·getD-append}
+use lib.Seq.{getD-at, take-all, take-at}
 use borrow.Author.Tests.{ltb-false, le-ltb}
 use Rattle.ground.specs.Judging.{first}
 use Rattle.ground.specs.Lent.{onFront}
@@ -28,7 +28,7 @@ use Rattle.text.specs.Meaning.{TableOf}
 use Rattle.text.specs.Writing.{digits, glue, pairLine, lastLine, tableLines, textOf}
 use Rattle.text.proofs.Spelling.{decimal-digits}
 use Rattle.text.proofs.Finding.{same-equal}
-use Rattle.text.proofs.Gluing.{linesTo, all-glued}
+use Rattle.text.proofs.Gluing.{linesTo, lines-glued}
 use Rattle.text.proofs.Forms.{pair-spelt, last-spelt}
 use Rattle.text.proofs.Walk.{ended-low}
 use Rattle.text.proofs.Right.{Right, right}
@@ -53,8 +53,8 @@ module _ (x : List ℕ) (n : ℕ) (r : Right x n) where
       ∙ ap {B = List (List ℕ)} (λ l. titleWord ∷ pairLine (tableLink x) ∷ (map digits (delaysOf x n) ++ l ∷ []))
       (last-spelt n (line x (suc (suc n))) (r .last .last) (r .last .decimal) (r .last .count) ∙ ap lastLine (sym (length-delays x n)))
 
-  is-text : begin x (suc (suc (suc n))) ≡ length x → x ≡ textOf (tableLink x) (delaysOf x n)
-  is-text e = all-glued x (suc (suc (suc n))) (r .whole) e ∙ ap glue all-lines
+  front-is-text : take (begin x (suc (suc (suc n)))) x ≡ textOf (tableLink x) (delaysOf x n)
+  front-is-text = lines-glued x (suc (suc (suc n))) (r .whole) ∙ ap glue all-lines
 
   delay-at : (m i : ℕ) → i < m → getD (delaysOf x m) i 0 ≡ value (line x (suc (suc i)))
   unfolding delaysOf
@@ -77,9 +77,23 @@ module _ (x : List ℕ) (n : ℕ) (r : Right x n) where
       (pass _ _ badDelay _ (some-none (λ i. ltb maxDelay (getD (delaysOf x n) i 0)) (length (delaysOf x n))
       (λ i l. le-ltb maxDelay (getD (delaysOf x n) i 0) (low i l))) fine))))
 
-whole-length : (x : List ℕ) → first (textFaults x) ≡ Fine → length x ≤ endOf x → begin x (suc (suc (suc (rowsOf x)))) ≡ length x
+-- x begins with the text of the good table that is read from it
+pub record BeginsWithItsText (x : List ℕ) : Type 0 where
+  pub good : GoodTable (tableLink x) (delaysOf x (rowsOf x))
+  pub text : take (endOf x) x ≡ textOf (tableLink x) (delaysOf x (rowsOf x))
+  pub inside : endOf x ≤ length x
+
+-- a text whose lines are right begins with the text of its table, whatever stands behind it
+pub begins-with-its-text : (x : List ℕ) → first (textFaults x) ≡ Fine → BeginsWithItsText x
 unfolding endOf
-whole-length x e l = omega (arith, ended-low x (suc (suc (rowsOf x))) (right x e .whole (suc (suc (rowsOf x))) (omega arith)))
+begins-with-its-text x e =
+    let r = right x e in
+    let n = rowsOf x in
+    record {
+      good = good x n r;
+      text = front-is-text x n r;
+      inside = ended-low x (suc (suc n)) (r .whole (suc (suc n)) (omega arith));
+    }
 
 -- a text that nothing is wrong with is the text of its table, which is written
 pub taken-table : (x old : List ℕ) → first (readFaults x (length old)) ≡ Fine
@@ -90,13 +104,13 @@ taken-table x old f =
     let b = front-fine (textFaults x) (lateFaults x (length old)) (a .1) in
     let c = passed (ltb (endOf x) (length x)) bytesAfter (endOf x) _ (b .1) in
     let d = passed (ltb (length old) (rowsOf x)) badLength 0 _ (c .1) in
-    let r = right x (b .0) in
+    let w = begins-with-its-text x (b .0) in
     let many = length-delays x (rowsOf x) in
     let front = take-at (delaysOf x (rowsOf x)) (drop (length (delaysOf x (rowsOf x))) old) (rowsOf x) many in
     record {
       room = ltb-false (length old) (rowsOf x) (d .0);
       as-many = rw front many;
-      good = rw front (good x (rowsOf x) r);
-      text = rw front (is-text x (rowsOf x) r (whole-length x (b .0) (ltb-false _ _ (c .0))));
+      good = rw front (w .good);
+      text = rw front (sym (take-all (endOf x) x (ltb-false _ _ (c .0))) ∙ w .text);
       written = rw front;
     }

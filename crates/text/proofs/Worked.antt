@@ -20,7 +20,7 @@ use Rattle.text.specs.Lines.{nextLine, begin, lineFrom, endedFrom}
 use Rattle.text.specs.Faults.{firstPart, secondPart, isPair, linkOf, isLast, countPart, placedAt, titleFaults, pairFaults, rowFaults}
 use Rattle.text.specs.Faults.{lastFaults, ownFaults, lineFaults, linesFaults, rowsOf, textFaults, endOf, lateFaults, readFaults}
 use Rattle.text.specs.Answer.{said, delaysOf, accepted, reading}
-use Rattle.text.specs.TextAnswer.{textSaid, judging}
+use Rattle.text.specs.TextAnswer.{textSaid, wholly, readingText}
 use Rattle.text.specs.Meaning.{TableOf, RefusalOf}
 use Rattle.text.proofs.Promises.{no-second, no-second-text, table-or-refusal, accepted-is-the-text, every-table-has-a-text, one-text}
 use Rattle.text.proofs.Promises.{lost-newline, long-text}
@@ -48,6 +48,10 @@ link = record { period = 10; size = 2 }
 abbrev nines : List ℕ
 nines = 9 ∷ 9 ∷ 9 ∷ 9 ∷ []
 
+-- what `read_text` is lent has 64 places
+abbrev all-nines : List ℕ
+all-nines = replicate 64 9
+
 pub record Worked : Type 0 where
   -- the table 10, 2, (0 3 7), and the list's tail kept
   pub whole : gives (said (Table link 3)) (0 ∷ 3 ∷ 7 ∷ 9 ∷ []) ≡ reading text nines
@@ -56,14 +60,14 @@ pub record Worked : Type 0 where
   -- "so empty input gives 3"
   pub empty : gives (said (Refused 3 0)) nines ≡ reading [] nines
   -- "10 if bytes follow": the text is whole, and ends before its byte 23
-  pub behind : textSaid (Whole 3 23) ≡ judging longer
+  pub behind : gives (textSaid (Whole link 3 23)) (0 ∷ 3 ∷ 7 ∷ replicate 61 9) ≡ readingText longer all-nines
   pub after : gives (said (Refused 10 23)) nines ≡ reading longer nines
 
 pub worked : Worked
 unfolding oneMore least first outside andThen linkFaults seek same begins isOther allDigits leadingZero isDecimal valueFrom
     nextLine begin lineFrom endedFrom firstPart secondPart isPair linkOf isLast countPart placedAt
     titleFaults pairFaults rowFaults lastFaults ownFaults lineFaults linesFaults rowsOf textFaults endOf lateFaults readFaults
-    delaysOf accepted said textSaid reading judging
+    delaysOf accepted said textSaid reading wholly readingText
 worked = record { whole = refl; lost = refl; empty = refl; behind = refl; after = refl }
 
 pub record Promised : Type 0 where
@@ -74,7 +78,8 @@ pub record Promised : Type 0 where
   pub refused-joined : (n : ℕ) × (p : ℕ) × (Refused 9 16 ≡ Refused n p) × RefusalOf joined nines n p nines
   pub refused-empty : RefusalOf [] nines 3 0 nines
   pub refused-long : (r : Read) (new : List ℕ) → gives (said r) new ≡ reading (replicate 1025 120) nines → (r ≡ Refused 1 0) × (new ≡ nines)
-  pub judged-so : (r : Text) → textSaid r ≡ judging longer → r ≡ Whole 3 23
+  pub whole-so : (r : Text) (new : List ℕ) → gives (textSaid r) new ≡ readingText longer all-nines
+      → (r ≡ Whole link 3 23) × (new ≡ 0 ∷ 3 ∷ 7 ∷ replicate 61 9)
 
 pub promised : Promised
 promised =
@@ -89,5 +94,5 @@ promised =
       refused-joined = lost-newline front back nines nines link 3 _ (Refused 9 16) nines (worked .whole) (worked .lost);
       refused-empty = table-or-refusal [] nines (Refused 3 0) nines (worked .empty);
       refused-long = λ r new. long-text (replicate 1025 120) nines r new (omega (arith, length-replicate {A = ℕ} 1025 120));
-      judged-so = λ r e. no-second-text longer r (Whole 3 23) e (worked .behind);
+      whole-so = λ r new e. no-second-text longer all-nines r (Whole link 3 23) new _ e (worked .behind);
     }

@@ -1,26 +1,74 @@
--- What the inner function for one line answers. The contract of the reader does not rest on it.
-use mathlib.Core.Bool.{Bool, true, false, not, _&&_}
+-- What the inner functions answer. The contracts of the readers do not rest on it.
+use mathlib.Core.Path.{_≡_}
+use mathlib.Core.Bool.{cond, not}
 use mathlib.Core.List.{List, _∷_}
-use Prim.Native.Nat.{ℕ}
-use lib.Dec.{ltb}
-use Rattle.ground.specs.Judging.{first, when}
+use Prim.Native.Nat.{ℕ, suc}
+use lib.ListN.{take}
+use Rattle.ground.specs.Judging.{Cause, first, when}
 use Rattle.ground.specs.Protocol.{unless}
-use Rattle.ground.specs.declared.Judged.{Judged}
+use Rattle.ground.specs.declared.Judged.the-variants.{Fine}
 use Rattle.text.specs.Limits.{cutLine}
-use Rattle.text.specs.Lines.{nextLine, lineFrom, endedFrom}
-use Rattle.text.specs.Faults.{isLast, ownFaults}
-use Rattle.text.specs.declared.Line.{Line}
-use Rattle.text.specs.declared.Line.the-variants.{More, Last, Wrong}
+use Rattle.text.specs.Decimal.{allDigits, isDecimal, value}
+use Rattle.text.specs.Lines.{nextLine, begin, lineFrom, endedFrom}
+use Rattle.text.specs.Faults.{isPair, linkOf, isLast, pairFaults, rowFaults, lastFaults, ownFaults, linesFaults, textFaults}
+use Rattle.text.specs.Faults.{rowsOf, endOf}
+use Rattle.text.specs.Answer.{tableLink, delaysOf}
+use Rattle.text.specs.TextAnswer.{TextSaid, wholeText, refusingText, textSaid}
+use Rattle.text.specs.declared.Text.{Text}
+use Rattle.text.specs.declared.decimal.Number.{Number}
+use Rattle.text.specs.declared.decimal.Number.the-variants.{Is, Not as NoNumber}
+use Rattle.text.specs.declared.judge.Numbers.{Numbers}
+use Rattle.text.specs.declared.judge.Numbers.the-variants.{Are, Not}
+use Rattle.text.specs.declared.judge.Head.{Head}
+use Rattle.text.specs.declared.judge.Head.the-variants.{Rows, Wrong as WrongHead}
+use Rattle.text.specs.declared.judge.Line.{Line}
+use Rattle.text.specs.declared.judge.Line.the-variants.{More, Last, Wrong}
 
-abbrev pub moreIf : Bool → ℕ → Line
-moreIf true next = Last next
-moreIf false next = More next
+-- the value of digits
+unfoldable pub digitsSay : List ℕ → Number
+digitsSay bs = cond (allDigits bs) (Is (value bs)) NoNumber
 
-abbrev pub lineIf : Judged → Bool → ℕ → Line
-lineIf j b next = unless Wrong j (moreIf b next)
+-- the value of a decimal number
+unfoldable pub numberSays : List ℕ → Number
+numberSays bs = cond (isDecimal bs) (Is (value bs)) NoNumber
 
--- line k, from `at` on: 3, then its own faults; or where the next line begins, and whether this one is the last
+-- the two numbers of line two
+unfoldable pub numbersSay : List ℕ → Numbers
+numbersSay l = cond (isPair l) (Are (linkOf l)) Not
+
+-- line two, the last line and a row behind n rows: the line l begins at `at`, and `next` is the place behind it
+abbrev pub pairSays : List ℕ → ℕ → ℕ → Head
+pairSays l at next = unless WrongHead (first (pairFaults l at)) (Rows (linkOf l) next)
+
+abbrev pub lastSays : ℕ → List ℕ → ℕ → ℕ → Line
+lastSays n l at next = unless Wrong (first (lastFaults n l at)) (Last next)
+
+abbrev pub rowSays : ℕ → List ℕ → ℕ → ℕ → Line
+rowSays n l at next = unless Wrong (first (rowFaults n l at)) (More (value l) next)
+
+-- the faults of line k, which begins at `at`: 3, then its own
+unfoldable pub faultsFrom : List ℕ → ℕ → ℕ → List Cause
+faultsFrom x at k = when (not (endedFrom x at)) cutLine at ∷ ownFaults k (lineFrom x at) at
+
+-- line two, from `at` on: its link, and where the rows begin
+unfoldable pub secondSays : List ℕ → ℕ → Head
+secondSays x at = unless WrongHead (first (faultsFrom x at 1)) (Rows (linkOf (lineFrom x at)) (nextLine x at))
+
+-- the first two lines
+unfoldable pub headSays : List ℕ → Head
+headSays x = unless WrongHead (first (linesFaults x 2)) (Rows (tableLink x) (begin x 2))
+
+-- the line behind n rows, from `at` on: a row and its delay, or the last one; and where the next line begins
 unfoldable pub lineSays : List ℕ → ℕ → ℕ → Line
-lineSays x at k =
-    lineIf (first (when (not (endedFrom x at)) cutLine at ∷ ownFaults k (lineFrom x at) at))
-    (ltb 1 k && isLast (lineFrom x at)) (nextLine x at)
+lineSays x at n =
+    unless Wrong (first (faultsFrom x at (suc (suc n))))
+    (cond (isLast (lineFrom x at)) (Last (nextLine x at)) (More (value (lineFrom x at)) (nextLine x at)))
+
+-- what the lines of x say
+unfoldable pub judging : List ℕ → TextSaid
+judging x = unless refusingText (first (textFaults x)) (wholeText (tableLink x) (rowsOf x) (endOf x))
+
+-- the answer r, and the delays of a whole text in front of the list `kept`, whose other places are nobody's
+pub record Kept (x : List ℕ) (r : Text) (kept : List ℕ) : Type 0 where
+  pub answer : textSaid r ≡ judging x
+  pub delays : first (textFaults x) ≡ Fine → take (rowsOf x) kept ≡ delaysOf x (rowsOf x)

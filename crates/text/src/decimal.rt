@@ -1,9 +1,17 @@
 // Decimal numbers of 1 to 8 digits, with no leading zero but `0` itself.
 ghost use mathlib.Core.Path.{_≡_};
-ghost use mathlib.Core.Bool.{true};
-ghost use Rattle.text.specs.Decimal.{isOther, allDigits, leadingZero, isDecimal, value as valueOf};
+ghost use Prim.Native.Nat.{_≤_};
+ghost use lib.ListN.{length};
+ghost use Rattle.text.specs.Decimal.{maxDigits, isOther, leadingZero};
+ghost use Rattle.text.specs.Steps.{digitsSay, numberSays};
 
-pub const MAX_DIGITS: usize = 8;
+const MAX_DIGITS: usize = 8;
+
+// What bytes say as a number.
+pub enum Number {
+    Is { value: u32 },
+    Not,
+}
 
 // A byte that is no digit.
 fn is_other(byte: u8) -> bool
@@ -13,20 +21,6 @@ fn is_other(byte: u8) -> bool
         return true;
     }
     byte > b'9'
-}
-
-// Each byte is a digit.
-fn all_digits(bytes: &[u8]) -> bool
-    ensures { λ r. ⌜ r ≡ allDigits (now (bytes .entry)) ⌝ }
-{
-    let mut i = 0;
-    while i < bytes.len() {
-        if is_other(bytes[i]) {
-            return false;
-        }
-        i += 1;
-    }
-    true
 }
 
 // A zero before another digit.
@@ -39,30 +33,36 @@ fn leading_zero(bytes: &[u8]) -> bool
     bytes[0] == b'0'
 }
 
-pub(crate) fn is_decimal(bytes: &[u8]) -> bool
-    ensures { λ r. ⌜ r ≡ isDecimal (now (bytes .entry)) ⌝ }
+// The value of up to 8 bytes, if each is a digit.
+fn digits(bytes: &[u8]) -> Number
+    requires { ⌜ length (now bytes) ≤ maxDigits ⌝ }
+    ensures { λ r. ⌜ r ≡ digitsSay (now (bytes .entry)) ⌝ }
 {
-    if bytes.len() < 1 {
-        return false;
-    }
-    if bytes.len() > MAX_DIGITS {
-        return false;
-    }
-    if leading_zero(bytes) {
-        return false;
-    }
-    all_digits(bytes)
-}
-
-pub(crate) fn value(digits: &[u8]) -> u32
-    requires { ⌜ isDecimal (now digits) ≡ true ⌝ }
-    ensures { λ r. ⌜ r ≡ valueOf (now (digits .entry)) ⌝ }
-{
-    let mut v: u32 = 0;
+    let mut value: u32 = 0;
     let mut i = 0;
-    while i < digits.len() {
-        v = v * 10 + (digits[i] - b'0') as u32;
+    while i < bytes.len() {
+        let b = bytes[i];
+        if is_other(b) {
+            return Number::Not;
+        }
+        value = value * 10 + (b - b'0') as u32;
         i += 1;
     }
-    v
+    Number::Is { value }
+}
+
+// The number that the bytes are, in one pass.
+pub(crate) fn read(bytes: &[u8]) -> Number
+    ensures { λ r. ⌜ r ≡ numberSays (now (bytes .entry)) ⌝ }
+{
+    if bytes.len() < 1 {
+        return Number::Not;
+    }
+    if bytes.len() > MAX_DIGITS {
+        return Number::Not;
+    }
+    if leading_zero(bytes) {
+        return Number::Not;
+    }
+    digits(bytes)
 }

@@ -1,6 +1,7 @@
-// What is wrong with a line by itself: its bytes, and the place of the first.
+// What a line says by itself, or what is wrong with it: its bytes, and the place of the first.
 use crate::bytes;
 use crate::decimal;
+use crate::decimal::Number;
 use crate::limits::BAD_COUNT;
 use crate::limits::BAD_LINE;
 use crate::limits::BAD_LINE_ONE;
@@ -13,16 +14,33 @@ use link::limits::MAX_ROWS;
 ghost use mathlib.Core.Path.{_≡_};
 ghost use mathlib.Core.Bool.{true};
 ghost use Rattle.ground.specs.Judging.{first};
-ghost use Rattle.text.specs.Faults.{isPair, linkOf, isLast, titleFaults, pairFaults, rowFaults, lastFaults, ownFaults};
-
-// Lines are numbered from 0, and the rows begin behind line two.
-pub const FIRST_ROW: usize = 2;
+ghost use Rattle.text.specs.Faults.{isLast, titleFaults};
+ghost use Rattle.text.specs.Steps.{numbersSay, pairSays, rowSays, lastSays};
 
 // The length of `end` and a space.
 const END_WORD: usize = 4;
 
+// Two numbers with one space between them, or anything else.
+enum Numbers {
+    Are { link: Link },
+    Not,
+}
+
+// The first two lines: the link, and where the rows begin; or their first fault.
+pub enum Head {
+    Rows { link: Link, at: usize },
+    Wrong { number: u32, place: usize },
+}
+
+// A line behind them: a row with its delay, or the last one, and the place behind it; or its first fault.
+pub enum Line {
+    More { delay: u32, next: usize },
+    Last { next: usize },
+    Wrong { number: u32, place: usize },
+}
+
 // Line one: 2.
-fn title(line: &[u8], at: usize) -> Judged
+pub(crate) fn title(line: &[u8], at: usize) -> Judged
     ensures { λ r. ⌜ r ≡ first (titleFaults (now (line .entry)) at) ⌝ }
 {
     if bytes::same(b"pma 1", line) {
@@ -35,45 +53,40 @@ fn title(line: &[u8], at: usize) -> Judged
 }
 
 // Two numbers with one space between them.
-fn is_pair(line: &[u8]) -> bool
-    ensures { λ r. ⌜ r ≡ isPair (now (line .entry)) ⌝ }
+fn two_numbers(line: &[u8]) -> Numbers
+    ensures { λ r. ⌜ r ≡ numbersSay (now (line .entry)) ⌝ }
 {
     let k = bytes::seek(line, b' ');
     if k >= line.len() {
-        return false;
+        return Numbers::Not;
     }
-    if !decimal::is_decimal(&line[..k]) {
-        return false;
+    match decimal::read(&line[..k]) {
+        Number::Not => Numbers::Not,
+        Number::Is { value: period } => {
+            let from = k + 1;
+            match decimal::read(&line[from..]) {
+                Number::Not => Numbers::Not,
+                Number::Is { value: size } => Numbers::Are {
+                    link: Link { period, size },
+                },
+            }
+        }
     }
-    let from = k + 1;
-    decimal::is_decimal(&line[from..])
 }
 
-// The period and the size of line two.
-pub(crate) fn link_of(line: &[u8]) -> Link
-    requires { ⌜ isPair (now line) ≡ true ⌝ }
-    ensures { λ r. ⌜ r ≡ linkOf (now (line .entry)) ⌝ }
+// Line two, behind which `next` is the place: 4, 5, 6.
+pub(crate) fn line_two(line: &[u8], at: usize, next: usize) -> Head
+    ensures { λ r. ⌜ r ≡ pairSays (now (line .entry)) at next ⌝ }
 {
-    let k = bytes::seek(line, b' ');
-    let period = decimal::value(&line[..k]);
-    let from = k + 1;
-    let size = decimal::value(&line[from..]);
-    Link { period, size }
-}
-
-// Line two: 4, 5, 6.
-fn pair(line: &[u8], at: usize) -> Judged
-    ensures { λ r. ⌜ r ≡ first (pairFaults (now (line .entry)) at) ⌝ }
-{
-    if !is_pair(line) {
-        return Judged::Fault {
+    match two_numbers(line) {
+        Numbers::Not => Head::Wrong {
             number: BAD_LINE,
             place: at,
-        };
-    }
-    match link::judge::link_values(link_of(line)) {
-        Judged::Fault { number, place: _ } => Judged::Fault { number, place: at },
-        Judged::Fine => Judged::Fine,
+        },
+        Numbers::Are { link } => match link::judge::link_values(link) {
+            Judged::Fault { number, place: _ } => Head::Wrong { number, place: at },
+            Judged::Fine => Head::Rows { link, at: next },
+        },
     }
 }
 
@@ -84,70 +97,57 @@ pub(crate) fn is_last(line: &[u8]) -> bool
     ground::begins(b"end ", line)
 }
 
-// A row, after so many: 4, 7, 8.
-fn row(line: &[u8], at: usize, rows: usize) -> Judged
-    ensures { λ r. ⌜ r ≡ first (rowFaults rows (now (line .entry)) at) ⌝ }
+// A row behind so many others: 4, 7, 8.
+pub(crate) fn row_line(line: &[u8], at: usize, rows: usize, next: usize) -> Line
+    ensures { λ r. ⌜ r ≡ rowSays rows (now (line .entry)) at next ⌝ }
 {
-    if !decimal::is_decimal(line) {
-        return Judged::Fault {
+    match decimal::read(line) {
+        Number::Not => Line::Wrong {
             number: BAD_LINE,
             place: at,
-        };
+        },
+        Number::Is { value } => {
+            if value > MAX_DELAY {
+                return Line::Wrong {
+                    number: BAD_DELAY,
+                    place: at,
+                };
+            }
+            if rows >= MAX_ROWS {
+                return Line::Wrong {
+                    number: BAD_ROWS,
+                    place: at,
+                };
+            }
+            Line::More { delay: value, next }
+        }
     }
-    if decimal::value(line) > MAX_DELAY {
-        return Judged::Fault {
-            number: BAD_DELAY,
-            place: at,
-        };
-    }
-    if rows >= MAX_ROWS {
-        return Judged::Fault {
-            number: BAD_ROWS,
-            place: at,
-        };
-    }
-    Judged::Fine
 }
 
-// The last line, after so many rows: 4, 8, 9.
-fn last(line: &[u8], at: usize, rows: usize) -> Judged
+// The last line, behind so many rows: 4, 8, 9.
+pub(crate) fn last_line(line: &[u8], at: usize, rows: usize, next: usize) -> Line
     requires { ⌜ isLast (now line) ≡ true ⌝ }
-    ensures { λ r. ⌜ r ≡ first (lastFaults rows (now (line .entry)) at) ⌝ }
+    ensures { λ r. ⌜ r ≡ lastSays rows (now (line .entry)) at next ⌝ }
 {
-    let count = &line[END_WORD..];
-    if !decimal::is_decimal(count) {
-        return Judged::Fault {
+    match decimal::read(&line[END_WORD..]) {
+        Number::Not => Line::Wrong {
             number: BAD_LINE,
             place: at,
-        };
+        },
+        Number::Is { value } => {
+            if rows == 0 {
+                return Line::Wrong {
+                    number: BAD_ROWS,
+                    place: at,
+                };
+            }
+            if value as usize != rows {
+                return Line::Wrong {
+                    number: BAD_COUNT,
+                    place: at,
+                };
+            }
+            Line::Last { next }
+        }
     }
-    if rows == 0 {
-        return Judged::Fault {
-            number: BAD_ROWS,
-            place: at,
-        };
-    }
-    if decimal::value(count) as usize != rows {
-        return Judged::Fault {
-            number: BAD_COUNT,
-            place: at,
-        };
-    }
-    Judged::Fine
-}
-
-// Line k, from 0.
-pub(crate) fn own(line: &[u8], at: usize, k: usize) -> Judged
-    ensures { λ r. ⌜ r ≡ first (ownFaults k (now (line .entry)) at) ⌝ }
-{
-    if k == 0 {
-        return title(line, at);
-    }
-    if k == 1 {
-        return pair(line, at);
-    }
-    if is_last(line) {
-        return last(line, at, k - FIRST_ROW);
-    }
-    row(line, at, k - FIRST_ROW)
 }

@@ -4,6 +4,8 @@ mod decimal;
 mod judge;
 pub mod limits;
 
+use crate::judge::Head;
+use crate::judge::Line;
 use crate::limits::BYTES_AFTER;
 use crate::limits::CUT_LINE;
 use crate::limits::LONG_TEXT;
@@ -11,19 +13,18 @@ use crate::limits::MAX_TEXT;
 use ground::Judged;
 use link::Link;
 use link::limits::BAD_LENGTH;
+use link::limits::MAX_ROWS;
 ghost use mathlib.Core.Path.{_≡_};
 ghost use Prim.Native.Nat.{_≤_, _+_};
+ghost use lib.Dec.{leb};
 ghost use lib.ListN.{length, drop};
-ghost use Rattle.ground.specs.Judging.{first};
-ghost use Rattle.ground.specs.Lent.{onFront};
 ghost use Rattle.ground.specs.Protocol.{gives};
-ghost use Rattle.ground.specs.declared.Judged.the-variants.{Fine};
+ghost use Rattle.link.specs.Limits.{maxRows};
 ghost use Rattle.text.specs.Bytes.{newline, seek};
-ghost use Rattle.text.specs.Lines.{begin};
-ghost use Rattle.text.specs.Faults.{textFaults, rowsOf};
-ghost use Rattle.text.specs.Answer.{said, reading, accepted, delaysOf};
-ghost use Rattle.text.specs.TextAnswer.{textSaid, judging};
-ghost use Rattle.text.specs.Steps.{lineSays};
+ghost use Rattle.text.specs.Answer.{said, reading};
+ghost use Rattle.text.specs.TextAnswer.{textSaid, readingText};
+ghost use Rattle.text.specs.Steps.{headSays, secondSays, lineSays, Kept};
+ghost use Rattle.text.specs.declared.judge.Head.the-variants.{Rows};
 
 // What the text says: its table, or the first fault.
 pub enum Read {
@@ -31,17 +32,10 @@ pub enum Read {
     Refused { number: u32, place: usize },
 }
 
-// The same for a text that may have bytes behind it: its rows, and the place behind its last line.
+// The same for a text that may have bytes behind it: its table, and the place behind its last line.
 pub enum Text {
-    Whole { rows: usize, end: usize },
+    Whole { link: Link, rows: usize, end: usize },
     Refused { number: u32, place: usize },
-}
-
-// One line with nothing wrong in it: the place behind it, and whether it is the last.
-enum Line {
-    More { next: usize },
-    Last { next: usize },
-    Wrong { number: u32, place: usize },
 }
 
 // A text and nothing behind it: 1, the faults of its lines, 10, 11; or its table, with the delays in the front of the list.
@@ -54,9 +48,10 @@ pub fn read_table(text: &[u8], delays: &mut [u32]) -> Read
             place: 0,
         };
     }
-    match judge_text(text) {
+    let mut kept = [0u32; MAX_ROWS];
+    match read_lines(text, &mut kept) {
         Text::Refused { number, place } => Read::Refused { number, place },
-        Text::Whole { rows, end } => {
+        Text::Whole { link, rows, end } => {
             if end < text.len() {
                 return Read::Refused {
                     number: BYTES_AFTER,
@@ -69,31 +64,60 @@ pub fn read_table(text: &[u8], delays: &mut [u32]) -> Read
                     place: 0,
                 };
             }
-            take_table(text, rows, delays)
+            ground::copy_out(&kept[..rows], delays);
+            Read::Table { link, rows }
         }
     }
 }
 
-// The lines from the start, up to the last one or the first fault.
-pub fn judge_text(text: &[u8]) -> Text
-    ensures { λ r. ⌜ textSaid r ≡ judging (now (text .entry)) ⌝ }
+// A text that may have bytes behind it: the first fault of its lines; or its table, with the delays in the front of the list.
+pub fn read_text(text: &[u8], delays: &mut [u32; MAX_ROWS]) -> Text
+    ensures { λ r. ⌜ gives (textSaid r) (now (delays .exit)) ≡ readingText (now (text .entry)) (now (delays .entry)) ⌝ }
 {
-    let mut at: usize = 0;
-    let mut k: usize = 0;
+    let mut kept = [0u32; MAX_ROWS];
+    match read_lines(text, &mut kept) {
+        Text::Refused { number, place } => Text::Refused { number, place },
+        Text::Whole { link, rows, end } => {
+            ground::copy_out(&kept[..rows], delays);
+            Text::Whole { link, rows, end }
+        }
+    }
+}
+
+// The lines from the start, up to the last one or the first fault. The delays are kept as they come.
+fn read_lines(text: &[u8], kept: &mut [u32]) -> Text
+    requires { ⌜ length (now kept) ≡ maxRows ⌝ }
+    ensures { λ r. ⌜ Kept (now (text .entry)) r (now (kept .exit)) ⌝ }
+{
+    match first_lines(text) {
+        Head::Wrong { number, place } => Text::Refused { number, place },
+        Head::Rows { link, at } => read_rows(text, link, at, kept),
+    }
+}
+
+// The lines behind line two, the first of which begins at `from`.
+fn read_rows(text: &[u8], link: Link, from: usize, kept: &mut [u32]) -> Text
+    requires { ⌜ (Rows link from ≡ headSays (now text)) × (length (now kept) ≡ maxRows) ⌝ }
+    ensures { λ r. ⌜ Kept (now (text .entry)) r (now (kept .exit)) ⌝ }
+{
+    let mut at = from;
+    let mut rows: usize = 0;
     loop {
-        match judge_line(text, at, k) {
+        match next_line(text, at, rows) {
             Line::Wrong { number, place } => {
                 return Text::Refused { number, place };
             }
             Line::Last { next } => {
                 return Text::Whole {
-                    rows: k - judge::FIRST_ROW,
+                    link,
+                    rows,
                     end: next,
                 };
             }
-            Line::More { next } => {
+            Line::More { delay, next } => {
+                kept[rows] = delay;
                 at = next;
-                k += 1;
+                rows += 1;
             }
         }
     }
@@ -107,58 +131,60 @@ fn line_end(text: &[u8], at: usize) -> usize
     at + bytes::seek(&text[at..], b'\n')
 }
 
-// Line k, which begins at `at`: 3, then what is wrong with it by itself.
-fn judge_line(text: &[u8], at: usize, k: usize) -> Line
+// The text ends before the line does: 3.
+fn is_cut(text: &[u8], end: usize) -> bool
+    ensures { λ r. ⌜ r ≡ leb (length (now (text .entry))) end ⌝ }
+{
+    end >= text.len()
+}
+
+// Lines one and two: 3, 2, 3, 4, 5, 6.
+fn first_lines(text: &[u8]) -> Head
+    ensures { λ r. ⌜ r ≡ headSays (now (text .entry)) ⌝ }
+{
+    let end = line_end(text, 0);
+    if is_cut(text, end) {
+        return Head::Wrong {
+            number: CUT_LINE,
+            place: 0,
+        };
+    }
+    match judge::title(&text[..end], 0) {
+        Judged::Fault { number, place } => Head::Wrong { number, place },
+        Judged::Fine => second(text, end + 1),
+    }
+}
+
+// Line two, which begins at `at`: 3, 4, 5, 6.
+fn second(text: &[u8], at: usize) -> Head
     requires { ⌜ at ≤ length (now text) ⌝ }
-    ensures { λ r. ⌜ r ≡ lineSays (now (text .entry)) at k ⌝ }
+    ensures { λ r. ⌜ r ≡ secondSays (now (text .entry)) at ⌝ }
 {
     let end = line_end(text, at);
-    if end >= text.len() {
+    if is_cut(text, end) {
+        return Head::Wrong {
+            number: CUT_LINE,
+            place: at,
+        };
+    }
+    judge::line_two(&text[at..end], at, end + 1)
+}
+
+// A line behind so many rows, which begins at `at`: 3, then what is wrong with it by itself.
+fn next_line(text: &[u8], at: usize, rows: usize) -> Line
+    requires { ⌜ at ≤ length (now text) ⌝ }
+    ensures { λ r. ⌜ r ≡ lineSays (now (text .entry)) at rows ⌝ }
+{
+    let end = line_end(text, at);
+    if is_cut(text, end) {
         return Line::Wrong {
             number: CUT_LINE,
             place: at,
         };
     }
     let line = &text[at..end];
-    match judge::own(line, at, k) {
-        Judged::Fault { number, place } => Line::Wrong { number, place },
-        Judged::Fine => {
-            if k < judge::FIRST_ROW {
-                return Line::More { next: end + 1 };
-            }
-            if judge::is_last(line) {
-                return Line::Last { next: end + 1 };
-            }
-            Line::More { next: end + 1 }
-        }
+    if judge::is_last(line) {
+        return judge::last_line(line, at, rows, end + 1);
     }
-}
-
-// The table of a whole text.
-fn take_table(text: &[u8], rows: usize, delays: &mut [u32]) -> Read
-    requires { ⌜ first (textFaults (now text)) ≡ Fine ⌝ }
-    requires { ⌜ (rows ≡ rowsOf (now text)) × (rows ≤ length (now delays)) ⌝ }
-    ensures { λ r. ⌜ gives (said r) (now (delays .exit)) ≡ accepted (now (text .entry)) (now (delays .entry)) ⌝ }
-{
-    let second = line_end(text, 0) + 1;
-    let end = line_end(text, second);
-    let link = judge::link_of(&text[second..end]);
-    write_delays(text, end + 1, rows, delays);
-    Read::Table { link, rows }
-}
-
-// The delays of a whole text, whose third line begins at `at`, go into the front of the list.
-fn write_delays(text: &[u8], at: usize, rows: usize, delays: &mut [u32])
-    requires { ⌜ first (textFaults (now text)) ≡ Fine ⌝ }
-    requires { ⌜ (rows ≡ rowsOf (now text)) × (rows ≤ length (now delays)) × (at ≡ begin (now text) 2) ⌝ }
-    ensures { λ _. ⌜ now (delays .exit) ≡ onFront (delaysOf (now (text .entry)) rows) (now (delays .entry)) ⌝ }
-{
-    let mut from = at;
-    let mut i = 0;
-    while i < rows {
-        let end = line_end(text, from);
-        delays[i] = decimal::value(&text[from..end]);
-        from = end + 1;
-        i += 1;
-    }
+    judge::row_line(line, at, rows, end + 1)
 }

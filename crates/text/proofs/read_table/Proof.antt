@@ -1,7 +1,9 @@
 -- 1, then the lines, then 10 and 11; and the table where none applies.
-use mathlib.Core.Path.{sym, ap, _∙_}
-use Rattle.text.specs.TextAnswer.{textSaid}
-use Rattle.text.proofs.Answers.{long, broken, after, short, good, whole-told}
+use mathlib.Core.Path.{sym}
+use native.Mathlib.Omega.{arith}
+use lib.ListN.{length-take}
+use lib.Seq.{length-take-le}
+use Rattle.text.proofs.Answers.{long, broken, rows-few, after, short, good}
 use borrow.Author.Needs.{needs}
 use Rattle.text.proofs.read_table.Statement.{statement}
 use Rattle.text.proofs.read_table.Tie as tie
@@ -9,62 +11,80 @@ use Rattle.text.proofs.read_table.Tie as tie
 returns : tie.Need-returns
 returns c = long _ _ (c .if1 .taken)
 
-judge-text-requires : tie.Need-judge-text-requires
-judge-text-requires c κs = search needs
+slice-aggregate-read-lines : tie.Need-slice-aggregate-read-lines
+slice-aggregate-read-lines c = search needs
+
+read-lines-requires : tie.Need-read-lines-requires
+read-lines-requires c κs = search needs
 
 enum-known-number : tie.Need-enum-known-number
 enum-known-number c = search needs
 
-enum-known-rows : tie.Need-enum-known-rows
-enum-known-rows c = search needs
+enum-known-link : tie.Need-enum-known-link
+enum-known-link c = search needs
 
 returns-2 : tie.Need-returns-2
 returns-2 c =
-    let judged = c .before .before .before .before in
-    after _ _ (judged .before .if1 .left) _ _ (ap textSaid (sym (c .before .before .rows .given .1)) ∙ judged .judge-text .ensures)
-    (c .if2 .taken)
+    let whole = c .before .before in
+    let lines = whole .before .before .before in
+    after _ _ _ _ _ (rw (whole .link .given .1) at (lines .read-lines .ensures)) _ (lines .before .before .if1 .left) (c .if2 .taken)
 
 returns-3 : tie.Need-returns-3
 returns-3 c =
-    let whole = c .before .before .before in
-    let judged = whole .before .before in
-    short _ _ (judged .before .if1 .left) _ _ (ap textSaid (sym (whole .rows .given .1)) ∙ judged .judge-text .ensures)
-    (c .before .if2 .left) (c .if3 .taken)
+    let all = c .before in
+    let whole = all .before .before in
+    let lines = whole .before .before .before in
+    short _ _ _ _ _ (rw (whole .link .given .1) at (lines .read-lines .ensures)) _ (lines .before .before .if1 .left) (all .if2 .left)
+    (c .if3 .taken)
 
-take-table-requires : tie.Need-take-table-requires
-take-table-requires c κs =
+array-share-prefix-kept : tie.Need-array-share-prefix-kept
+array-share-prefix-kept c =
+    let whole = c .before .before .before in
+    let lines = whole .before .before .before .read-lines in
+    omega (arith, rows-few _ _ _ _ _ (rw (whole .link .given .1) at (lines .ensures)), lines .kept .1 .0)
+
+slice-aggregate-copy-out : tie.Need-slice-aggregate-copy-out
+slice-aggregate-copy-out c =
     let whole = c .before .before .before .before in
-    let f = whole-told _ _ _ (ap textSaid (sym (whole .rows .given .1)) ∙ whole .before .before .judge-text .ensures) in
-    (f .0, (f .1, c .before .if3 .left))
+    let lines = whole .before .before .before .read-lines in
+    sym (length-take-le _ _ (omega (arith, rows-few _ _ _ _ _ (rw (whole .link .given .1) at (lines .ensures)), lines .kept .1 .0)))
+
+copy-out-requires : tie.Need-copy-out-requires
+copy-out-requires c κs = simp length-take (omega arith)
 
 returns-4 : tie.Need-returns-4
 returns-4 c =
-    let judged = c .before .before .before in
-    broken _ _ (judged .before .if1 .left) _ _ (ap textSaid (sym (c .before .number .given .1)) ∙ judged .judge-text .ensures)
+    let fault = c .before in
+    let lines = fault .before .before .before in
+    broken _ _ _ _ (rw (fault .number .given .1) at (lines .read-lines .ensures)) _ (lines .before .before .if1 .left)
 
 same-length : tie.Need-same-length
 same-length c = search needs
 
 returns-5 : tie.Need-returns-5
 returns-5 c =
-    let taken = c .before .before in
-    let room = taken .before .before in
-    let whole = room .before .before .before in
-    let judged = whole .before .before in
-    good _ _ (judged .before .if1 .left) _ _ (ap textSaid (sym (whole .rows .given .1)) ∙ judged .judge-text .ensures)
-    (room .before .if2 .left) (room .if3 .left) _ (taken .take-table .ensures)
+    let out = c .before .before in
+    let room = out .before .before .before in
+    let all = room .before in
+    let whole = all .before .before in
+    let lines = whole .before .before .before in
+    good _ _ _ _ _ (rw (whole .link .given .1) at (lines .read-lines .ensures)) _ (lines .before .before .if1 .left) (all .if2 .left)
+    (room .if3 .left) _ (out .copy-out .ensures)
 
 pub read-table-spec : {M : Type 1} → statement M
 read-table-spec =
     tie.close
     (tie.spec
     returns
-    judge-text-requires
+    slice-aggregate-read-lines
+    read-lines-requires
     enum-known-number
-    enum-known-rows
+    enum-known-link
     returns-2
     returns-3
-    take-table-requires
+    array-share-prefix-kept
+    slice-aggregate-copy-out
+    copy-out-requires
     returns-4
     same-length
     returns-5)

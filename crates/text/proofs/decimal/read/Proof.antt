@@ -4,39 +4,41 @@ use native.Mathlib.Omega.{arith}
 use lib.ListN.{length}
 use Rattle.ground.proofs.Faults.{below, above, inside}
 use Rattle.text.specs.Decimal.{maxDigits, isDecimal}
+use Rattle.text.specs.Steps.{digitsSay, numberSays}
 use borrow.Author.Needs.{needs}
-use Rattle.text.proofs.decimal.is_decimal.Statement.{statement}
-use Rattle.text.proofs.decimal.is_decimal.Tie as tie
+use Rattle.text.proofs.decimal.read.Statement.{statement}
+use Rattle.text.proofs.decimal.read.Tie as tie
 
 returns : tie.Need-returns
-unfolding isDecimal
+unfolding numberSays isDecimal
 returns c = rw (below 1 maxDigits _ (c .if1 .taken))
 
 returns-2 : tie.Need-returns-2
-unfolding isDecimal
+unfolding numberSays isDecimal
 returns-2 c = rw (above 1 maxDigits _ (c .if2 .taken))
 
 leading-zero-requires : tie.Need-leading-zero-requires
 leading-zero-requires c κs = search needs
 
 returns-3 : tie.Need-returns-3
-unfolding isDecimal
+unfolding numberSays isDecimal
 returns-3 c =
     let bs = c .before .before .before .before .before .args .bytes .now in
     let n = inside 1 maxDigits (length bs) (omega arith) (omega arith) in
     rw (n, sym (c .before .leading-zero .ensures) ∙ c .if3 .taken)
 
-all-digits-requires : tie.Need-all-digits-requires
-all-digits-requires c κs = search needs
+digits-requires : tie.Need-digits-requires
+digits-requires c κs = search needs
 
 returns-4 : tie.Need-returns-4
-unfolding isDecimal
+unfolding numberSays isDecimal digitsSay
 returns-4 c =
-    let bs = c .before .before .before .before .before .before .args .bytes .now in
+    let led = c .before in
+    let bs = led .before .before .before .before .before .args .bytes .now in
     let n = inside 1 maxDigits (length bs) (omega arith) (omega arith) in
-    rw (n, sym (c .before .before .leading-zero .ensures) ∙ c .before .if3 .left) (c .all-digits .ensures)
+    rw (n, sym (led .before .leading-zero .ensures) ∙ led .if3 .left) (c .digits .ensures)
 
-pub is-decimal-spec : {M : Type 1} → statement M
-is-decimal-spec =
+pub read-spec : {M : Type 1} → statement M
+read-spec =
     tie.close
-    (tie.spec returns returns-2 leading-zero-requires returns-3 all-digits-requires returns-4)
+    (tie.spec returns returns-2 leading-zero-requires returns-3 digits-requires returns-4)
