@@ -8,6 +8,7 @@ pub mod Elements
 pub mod Remainders
 pub mod Beginning
 pub mod Filling
+pub mod Blocks
 pub mod Adding
 pub mod Faults
 pub mod Only

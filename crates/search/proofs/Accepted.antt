@@ -38,3 +38,9 @@ module _ (k : Link) (ds : List ℕ) (places : ℕ) where
   pub judged-low : (n p : ℕ) → first (exactFaults k ds places) ≡ Fault n p → n < noOffset
   unfolding exactFaults linkFaults rowFaults roomFaults andThen allNumbers
   judged-low n p e = ltb-true n noOffset (number-of (λ m. ltb m noOffset) (exactFaults k ds places) n p refl e)
+
+-- two lists with room are judged alike
+pub same-judging : (k : Link) (ds : List ℕ) (places places′ : ℕ) → length ds ≤ places → length ds ≤ places′
+    → first (exactFaults k ds places) ≡ first (exactFaults k ds places′)
+unfolding exactFaults roomFaults
+same-judging k ds places places′ h g = rw (le-ltb places (length ds) h, le-ltb places′ (length ds) g)

@@ -10,8 +10,9 @@ use lib.Seq.{take-at}
 use borrow.Author.Tests.{le-leb}
 use Rattle.ground.specs.Judging.{first}
 use Rattle.ground.specs.Lent.{onFront}
+use Rattle.ground.specs.Protocol.{Outcome}
 use Rattle.ground.specs.declared.Judged.the-variants.{Fine}
-use Rattle.ground.proofs.Answers.{no-second-outcome}
+use Rattle.ground.proofs.Answers.{no-second as one-said, no-second-outcome}
 use Rattle.ground.proofs.Bools.{never}
 use Rattle.link.specs.Rows.{spanOf}
 use Rattle.link.specs.declared.Link.{Link}
@@ -19,7 +20,7 @@ use Rattle.search.specs.Limits.{maxExactRows}
 use Rattle.search.specs.Refusal.{exactFaults}
 use Rattle.search.specs.Builds.{begin, rulesOf, sequencesOf, LeastWholeOf}
 use Rattle.search.specs.Ceilings.{ceilingOf, ceilingUpTo}
-use Rattle.search.specs.Answer.{said, Answers, ClearChoice, Fewer, Decided, given}
+use Rattle.search.specs.Answer.{Said, said, Answers, ClearChoice, Fewer, Decided, given}
 use Rattle.search.specs.declared.Answer.{Answer}
 use Rattle.search.specs.declared.Answer.the-variants.{Plan, None, Spent, Refused}
 use Rattle.search.proofs.Accepted.{Accepted}
@@ -27,7 +28,7 @@ use Rattle.search.proofs.Least.{none-none}
 use Rattle.search.proofs.Listing.{steps-increasing}
 use Rattle.search.proofs.Meaning.{choice-plan, no-plan, least-at, found-clear, tests-most}
 use Rattle.search.proofs.Thinning.{shorter-plan, fewer-plan}
-use Rattle.search.proofs.Verdicts.{unsaid, again, Planned, means, plan-answers, none-answers}
+use Rattle.search.proofs.Verdicts.{unsaid, again, Planned, means, plan-answers, none-answers, says-same}
 
 -- "Show that no second answer satisfies it": nor a second content of the list
 pub no-second : (k : Link) (ds : List ℕ) (budget : ℕ) (old : List ℕ) (r s : Answer) (new other : List ℕ) → Answers k ds budget old r new
@@ -106,6 +107,23 @@ larger-budget-same k ds budget larger old old′ r s new new′ h room d a b =
         (e .0, rw (e .0))
     same (Spent t) d a = absurd d
     same (Refused n p) d a = absurd d
+
+-- The lent list does not matter: with room in both, two calls at one budget give the same answer and the same offsets.
+pub any-list-same : (k : Link) (ds : List ℕ) (budget : ℕ) (old old′ : List ℕ) (r s : Answer) (new new′ : List ℕ) → length ds ≤ length old
+    → length ds ≤ length old′ → Answers k ds budget old r new → Answers k ds budget old′ s new′
+    → (s ≡ r) × (given s (length ds) new′ ≡ given r (length ds) new)
+any-list-same k ds budget old old′ r s new new′ room room′ a b = (e, same r e a)
+  where
+    e : s ≡ r
+    e =
+        one-said said unsaid again (ap (λ (o : Outcome Said (List ℕ)). o .says) b)
+        (ap (λ (o : Outcome Said (List ℕ)). o .says) a ∙ says-same k ds budget old old′ room room′)
+
+    same : (r : Answer) → s ≡ r → Answers k ds budget old r new → given s (length ds) new′ ≡ given r (length ds) new
+    same (Plan t) e a = larger-budget-same k ds budget budget old old′ (Plan t) s new new′ (omega arith) room′ tt a b .1
+    same (None t) e a = rw e
+    same (Spent t) e a = rw e
+    same (Refused n p) e a = rw e
 
 -- "a number that tests never passes"
 pub tests-below-ceiling : (k : Link) (ds : List ℕ) (budget : ℕ) (old : List ℕ) (r : Answer) (new : List ℕ) → Answers k ds budget old r new

@@ -1,25 +1,29 @@
 -- What each answer means: a plan and 14 are what the search finds within the budget, 15 has more tests than it, and a refusal has a
 -- fault. Assumes nothing.
 use mathlib.Core.Path.{_≡_, refl, sym, _∙_}
+use mathlib.Core.Bool.{Bool, true, false, cond}
 use mathlib.Core.Logic.{⊎-elim}
 use mathlib.Core.List.{List}
 use Prim.Native.Nat.{ℕ, _<_, _≤_}
+use lib.Dec.{ltb}
 use lib.ListN.{length, take}
 use borrow.Author.Tests.{lt-ltb, le-ltb}
 use Rattle.ground.specs.Judging.{first}
 use Rattle.ground.specs.Lent.{onFront}
-use Rattle.ground.specs.Protocol.{gives, keeping}
+use Rattle.ground.specs.Protocol.{gives, keeping, unless}
+use Rattle.ground.specs.declared.Judged.{Judged}
 use Rattle.ground.specs.declared.Judged.the-variants.{Fine, Fault}
 use Rattle.ground.proofs.Answers.{Told, stopped, through, told, goes-on, no-second-outcome}
 use Rattle.ground.proofs.Bools.{lt-or-ge}
 use Rattle.link.specs.declared.Link.{Link}
+use Rattle.search.specs.Limits.{noBuild, budgetSpent}
 use Rattle.search.specs.Refusal.{exactFaults}
 use Rattle.search.specs.Builds.{Out, found, none, planned}
-use Rattle.search.specs.Answer.{Verdict, plan, nothing, spent, refusal, Said, said, within, outcome, refusing, searched}
+use Rattle.search.specs.Answer.{Verdict, plan, nothing, spent, refusal, Said, says, said, within, outcome, refusing, searched}
 use Rattle.search.specs.Answer.{exactly, Answers}
 use Rattle.search.specs.declared.Answer.{Answer}
 use Rattle.search.specs.declared.Answer.the-variants.{Plan, None, Spent, Refused}
-use Rattle.search.proofs.Accepted.{Accepted, good-exact, fine-exact}
+use Rattle.search.proofs.Accepted.{Accepted, good-exact, fine-exact, same-judging}
 use Rattle.search.proofs.Answering.{tests}
 
 -- the paper's form gives the answer back
@@ -106,3 +110,43 @@ module _ (k : Link) (ds : List ℕ) (budget : ℕ) (old : List ℕ) where
     pub none-answers : (t : ℕ) → planned k ds ≡ none t → t ≤ budget → Answers k ds budget old (None t) old
     unfolding said exactly outcome within
     none-answers t e h = goes-on (keeping refusing old) fine (rw (e, le-ltb budget t h))
+
+-- what is said does not depend on the list that is lent
+outcome-same : (budget n : ℕ) (old old′ : List ℕ) (o : Out) → outcome budget n old o .says ≡ outcome budget n old′ o .says
+unfolding outcome within
+outcome-same budget n old old′ (found s t) = go (ltb budget t)
+  where
+    go : (b : Bool) → cond b (gives (says spent budgetSpent 0 budget) old) (gives (says plan 0 0 t) (onFront (take n s) old)) .says
+        ≡ cond b (gives (says spent budgetSpent 0 budget) old′) (gives (says plan 0 0 t) (onFront (take n s) old′)) .says
+    go true = refl
+    go false = refl
+outcome-same budget n old old′ (none t) = go (ltb budget t)
+  where
+    go : (b : Bool) → cond b (gives (says spent budgetSpent 0 budget) old) (gives (says nothing noBuild 0 t) old) .says
+        ≡ cond b (gives (says spent budgetSpent 0 budget) old′) (gives (says nothing noBuild 0 t) old′) .says
+    go true = refl
+    go false = refl
+
+pub says-same : (k : Link) (ds : List ℕ) (budget : ℕ) (old old′ : List ℕ) → length ds ≤ length old → length ds ≤ length old′
+    → exactly k ds budget old .says ≡ exactly k ds budget old′ .says
+unfolding exactly
+says-same k ds budget old old′ room room′ =
+    rw (same-judging k ds (length old) (length old′) room room′) (go (first (exactFaults k ds (length old′))))
+  where
+    go : (j : Judged) → unless (keeping refusing old) j (searched k ds budget old) .says
+        ≡ unless (keeping refusing old′) j (searched k ds budget old′) .says
+    go Fine = outcome-same budget (length ds) old old′ (planned k ds)
+    go (Fault n p) = refl
+
+-- there is an answer to every call
+pub some-answer : (k : Link) (ds : List ℕ) (budget : ℕ) (old : List ℕ) → (r : Answer) × (said r ≡ exactly k ds budget old .says)
+unfolding said exactly outcome within
+some-answer k ds budget old = judged (first (exactFaults k ds (length old)))
+  where
+    ended : (o : Out) → (r : Answer) × (said r ≡ outcome budget (length ds) old o .says)
+    ended (found s t) = ⊎-elim (λ h. (Spent budget, rw (lt-ltb budget t h))) (λ h. (Plan t, rw (le-ltb budget t h))) (lt-or-ge budget t)
+    ended (none t) = ⊎-elim (λ h. (Spent budget, rw (lt-ltb budget t h))) (λ h. (None t, rw (le-ltb budget t h))) (lt-or-ge budget t)
+
+    judged : (j : Judged) → (r : Answer) × (said r ≡ unless (keeping refusing old) j (searched k ds budget old) .says)
+    judged Fine = ended (planned k ds)
+    judged (Fault n p) = (Refused n p, refl)

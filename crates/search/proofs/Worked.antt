@@ -24,8 +24,8 @@ use Rattle.search.specs.Answer.{said, within, outcome, exactly, Answers,
 use Rattle.search.specs.declared.Answer.{Answer}
 use Rattle.search.specs.declared.Answer.the-variants.{Plan, None, Spent, Refused}
 use Rattle.search.proofs.Promises.{no-second, plan-is-least, plan-is-clear, none-means-none, none-counts-all}
-use Rattle.search.proofs.Promises.{clear-plan-never-none, tail-kept, larger-budget-same, tests-below-ceiling, ceiling-enough}
-use Rattle.search.proofs.Promises.{plan-exactly-when-clear, shorter-never-none, fewer-rows-never-none}
+use Rattle.search.proofs.Promises.{clear-plan-never-none, tail-kept, larger-budget-same, any-list-same, tests-below-ceiling}
+use Rattle.search.proofs.Promises.{ceiling-enough, plan-exactly-when-clear, shorter-never-none, fewer-rows-never-none}
 
 abbrev table : ℕ → ℕ → Link
 table p t = record { period = p; size = t }
@@ -75,6 +75,11 @@ pub first-always : (budget : ℕ) (list : List ℕ) (r : Answer) (new : List ℕ
 first-always budget list r new h room a =
     let w = larger-budget-same (table 10 2) three 3 budget lent list (Plan 3) r planned new h room tt (answers .0) a in
     (w .0, w .3 ∙ ap (λ (os : List ℕ). onFront os list) (w .1))
+
+-- nine rows get 12, whatever list with nine places is lent
+pub nine-always : (list : List ℕ) (r : Answer) (new : List ℕ) → 9 ≤ length list → Answers (table 10 2) nine 5 list r new → r ≡ Refused 12 0
+nine-always list r new room a =
+    any-list-same (table 10 2) nine 5 nine list (Refused 12 0) r nine new (omega arith) room (answers .2) a .0
 
 -- no budget makes the planner say that there is none, nor with one slot less, nor without row 0
 pub first-never-none : (budget t : ℕ) (new : List ℕ) → Answers (table 10 2) three budget lent (None t) new → ⊥
