@@ -14,6 +14,7 @@
 
 #define PERIOD 1000000
 #define ROWS SEAMWHISK_MAX_ROWS
+#define TEXTS SEAMWHISK_MAX_TEXTS
 #define LIGHT 500
 #define FULL 15000
 #define ROUND_NS 2e6   /* a round is as many calls as take this long, at least one */
@@ -33,6 +34,8 @@ struct side {
                   seamwhisk_searched *);
     uint64_t (*ceiling)(size_t);
     void (*read_table)(const uint8_t *, size_t, uint32_t *, size_t, seamwhisk_read *);
+    void (*plan_texts)(const uint8_t *, size_t, uint64_t, uint64_t *, size_t, uint32_t *, size_t,
+                       seamwhisk_run *);
     void (*write_plan)(uint32_t, uint32_t, const uint32_t *, size_t, const uint32_t *, size_t,
                        uint8_t *, size_t, seamwhisk_written *);
     void (*read_plan)(const uint8_t *, size_t, uint32_t *, size_t, uint32_t *, size_t,
@@ -42,12 +45,13 @@ struct side {
 };
 
 static const struct side baseline = {
-    rules_check,      rules_check_records, rules_first_fit,  rules_meta_offset, rules_exact,
-    rules_ceiling,    rules_read_table,    rules_write_plan, rules_read_plan,   rules_report};
+    rules_check,   rules_check_records, rules_first_fit,       rules_meta_offset, rules_exact,
+    rules_ceiling, rules_read_table,    rules_plan_texts_flat, rules_write_plan,  rules_read_plan,
+    rules_report};
 static const struct side seamwhisk = {
-    seamwhisk_check,       seamwhisk_check_records, seamwhisk_first_fit,  seamwhisk_meta_offset,
-    seamwhisk_exact,       seamwhisk_ceiling,       seamwhisk_read_table, seamwhisk_write_plan,
-    seamwhisk_read_plan,   seamwhisk_report};
+    seamwhisk_check,           seamwhisk_check_records, seamwhisk_first_fit,  seamwhisk_meta_offset,
+    seamwhisk_exact,           seamwhisk_ceiling,       seamwhisk_read_table,
+    seamwhisk_plan_texts_flat, seamwhisk_write_plan,    seamwhisk_read_plan,  seamwhisk_report};
 
 /* What the workloads are run on; made once, the same for both sides. */
 static const uint32_t eight_delays[8] = {7, 16, 16, 16, 16, 16, 16, 16};
@@ -55,6 +59,8 @@ static uint32_t delays[ROWS], plan[ROWS];
 static seamwhisk_record records[ROWS];
 static uint8_t text[SEAMWHISK_MAX_TEXT], file[SEAMWHISK_MAX_FILE];
 static size_t text_length, file_length;
+static uint8_t long_texts[TEXTS * SEAMWHISK_MAX_TEXT], short_texts[TEXTS * SEAMWHISK_MAX_TEXT];
+static size_t long_length, short_length;
 
 /* All that a call can write: the answer and the lent buffers. */
 struct result {
@@ -64,10 +70,12 @@ struct result {
         seamwhisk_planned planned;
         seamwhisk_searched searched;
         seamwhisk_read read;
+        seamwhisk_run run;
         seamwhisk_written written;
         seamwhisk_reported reported;
     } answer;
-    uint32_t delays[ROWS], offsets[ROWS];
+    uint32_t delays[ROWS], offsets[TEXTS * ROWS];
+    uint64_t answers[4 * TEXTS];
     uint8_t file[SEAMWHISK_MAX_FILE];
 };
 
@@ -118,6 +126,18 @@ static void read_table(const struct side *side, struct result *r)
     side->read_table(text, text_length, r->delays, ROWS, &r->answer.read);
 }
 
+static void plan_long_texts(const struct side *side, struct result *r)
+{
+    side->plan_texts(long_texts, long_length, 1000, r->answers, 4 * TEXTS, r->offsets, TEXTS * ROWS,
+                     &r->answer.run);
+}
+
+static void plan_short_texts(const struct side *side, struct result *r)
+{
+    side->plan_texts(short_texts, short_length, 1000, r->answers, 4 * TEXTS, r->offsets,
+                     TEXTS * ROWS, &r->answer.run);
+}
+
 static void write_plan(const struct side *side, struct result *r)
 {
     side->write_plan(PERIOD, LIGHT, delays, ROWS, plan, ROWS, r->file, sizeof r->file,
@@ -148,23 +168,36 @@ static const struct workload workloads[] = {
     {"checker over records, size 500: clear", 5, {0, 0, 0, 0, 0}, check_records},
     {"stretch report, size 500", 3, {0, 0, PERIOD - ROWS * LIGHT}, report},
     {"text table, read", 5, {0, 0, PERIOD, LIGHT, ROWS}, read_table},
+    {"joined texts, 32 of 64 rows: 12 each", 3, {0, 0, TEXTS}, plan_long_texts},
+    {"joined texts, 32 of 8 rows: plans", 3, {0, 0, TEXTS}, plan_short_texts},
     {"plan file, written", 2, {0, 0}, write_plan},
     {"plan file, read", 5, {0, 0, PERIOD, LIGHT, ROWS}, read_plan},
 };
 
-/* Pseudo-random delays from a fixed seed; the plan, the text and the file that go with them. */
+/* The text of the first delays, and its length. */
+static size_t make_text(uint8_t *into, size_t room, size_t rows)
+{
+    char *at = (char *)into;
+    int length = snprintf(at, room, "pma 1\n%d %d\n", PERIOD, LIGHT);
+    for (size_t row = 0; row < rows; row++)
+        length += snprintf(at + length, room - (size_t)length, "%" PRIu32 "\n", delays[row]);
+    length += snprintf(at + length, room - (size_t)length, "end %zu\n", rows);
+    return (size_t)length;
+}
+
+/* Pseudo-random delays from a fixed seed; the plan, the texts and the file that go with them. */
 static bool make_inputs(void)
 {
     uint32_t state = 1;
-    int length = snprintf((char *)text, sizeof text, "pma 1\n%d %d\n", PERIOD, LIGHT);
     for (size_t row = 0; row < ROWS; row++) {
         state = state * 1664525u + 1013904223u;
         delays[row] = state >> 8;
-        length += snprintf((char *)text + length, sizeof text - (size_t)length, "%" PRIu32 "\n",
-                           delays[row]);
     }
-    length += snprintf((char *)text + length, sizeof text - (size_t)length, "end %d\n", ROWS);
-    text_length = (size_t)length;
+    text_length = make_text(text, sizeof text, ROWS);
+    for (size_t t = 0; t < TEXTS; t++) {
+        long_length += make_text(long_texts + long_length, sizeof long_texts - long_length, ROWS);
+        short_length += make_text(short_texts + short_length, sizeof short_texts - short_length, 8);
+    }
     seamwhisk_planned planned;
     seamwhisk_written written;
     rules_first_fit(PERIOD, LIGHT, delays, ROWS, plan, ROWS, &planned);

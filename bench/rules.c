@@ -389,9 +389,8 @@ static struct fault delay_line(const struct line *line, struct plan *table)
     return no_fault;
 }
 
-/* 4, 8, 9, 10 */
-static struct fault end_line(const struct line *line, const struct text *text,
-                             const struct plan *table)
+/* 4, 8, 9 */
+static struct fault end_line(const struct line *line, const struct plan *table)
 {
     uint32_t count;
     if (!decimal(line->bytes + 4, line->length - 4, &count))
@@ -400,11 +399,10 @@ static struct fault end_line(const struct line *line, const struct text *text,
         return refuse(SEAMWHISK_ROWS, line->place);
     if (count != table->rows)
         return refuse(SEAMWHISK_END_COUNT, line->place);
-    if (text->next < text->length)
-        return refuse(SEAMWHISK_BYTES_AFTER, text->next);
     return no_fault;
 }
 
+/* The lines up to the last one, behind which text->next is left. */
 static struct fault read_lines(struct text *text, struct plan *table)
 {
     struct fault fault;
@@ -421,7 +419,7 @@ static struct fault read_lines(struct text *text, struct plan *table)
         if (!next_line(text, &line))
             return refuse(SEAMWHISK_LINE_CUT, line.place);
         if (line.length >= 4 && memcmp(line.bytes, "end ", 4) == 0)
-            return end_line(&line, text, table);
+            return end_line(&line, table);
         fault = delay_line(&line, table);
     }
     return fault;
@@ -437,6 +435,8 @@ void rules_read_table(const uint8_t *bytes, size_t length, uint32_t *delays, siz
         fault = refuse(SEAMWHISK_TEXT_LENGTH, 0);
     else
         fault = read_lines(&text, &table);
+    if (fault.number == 0 && text.next < length)
+        fault = refuse(SEAMWHISK_BYTES_AFTER, text.next);
     if (fault.number == 0 && room < table.rows)
         fault = refuse(SEAMWHISK_BUFFER, 0);
     if (fault.number != 0) {
@@ -445,6 +445,55 @@ void rules_read_table(const uint8_t *bytes, size_t length, uint32_t *delays, siz
     }
     memcpy(delays, table.delays, table.rows * sizeof *delays);
     *answer = (seamwhisk_read){0, 0, table.period, table.size, table.rows};
+}
+
+/* ---- joined texts ---- */
+
+/* One text: its fault, or its four numbers, its plan and its length. */
+static struct fault plan_text(const uint8_t *bytes, size_t length, uint64_t budget,
+                              uint64_t *numbers, uint32_t *offsets, size_t *used)
+{
+    struct text text = {bytes, length < SEAMWHISK_MAX_TEXT ? length : SEAMWHISK_MAX_TEXT, 0};
+    struct plan table;
+    struct fault fault = read_lines(&text, &table);
+    if (fault.number == SEAMWHISK_LINE_CUT && length > SEAMWHISK_MAX_TEXT)
+        return refuse(SEAMWHISK_TEXT_LENGTH, 0);
+    if (fault.number != 0)
+        return fault;
+    seamwhisk_searched answer;
+    rules_exact(table.period, table.size, table.delays, table.rows, budget, offsets, MAX_ROWS,
+                &answer);
+    numbers[0] = answer.number;
+    numbers[1] = answer.place;
+    numbers[2] = answer.tests;
+    numbers[3] = table.rows;
+    *used = text.next;
+    return no_fault;
+}
+
+void rules_plan_texts_flat(const uint8_t *texts, size_t length, uint64_t budget, uint64_t *answers,
+                           size_t numbers, uint32_t *offsets, size_t offsets_room,
+                           seamwhisk_run *answer)
+{
+    struct fault fault = no_fault;
+    size_t at = 0, count = 0, used = 0;
+    if (length > SEAMWHISK_MAX_JOINED)
+        fault = refuse(SEAMWHISK_JOINED, 0);
+    else if (numbers < 4 * SEAMWHISK_MAX_TEXTS || offsets_room < MAX_ROWS * SEAMWHISK_MAX_TEXTS)
+        fault = refuse(SEAMWHISK_BUFFER, 0);
+    while (fault.number == 0 && at < length) {
+        if (count == SEAMWHISK_MAX_TEXTS) {
+            fault = refuse(SEAMWHISK_TEXTS, at);
+            break;
+        }
+        fault = plan_text(texts + at, length - at, budget, answers + 4 * count,
+                          offsets + MAX_ROWS * count, &used);
+        if (fault.number == 0) {
+            at += used;
+            count++;
+        }
+    }
+    *answer = (seamwhisk_run){fault.number, fault.place, count};
 }
 
 /* ---- plan file ---- */

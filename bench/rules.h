@@ -25,6 +25,10 @@ uint64_t rules_ceiling(size_t rows);
 void rules_read_table(const uint8_t *text, size_t length, uint32_t *delays, size_t room,
                       seamwhisk_read *answer);
 
+void rules_plan_texts_flat(const uint8_t *texts, size_t length, uint64_t budget, uint64_t *answers,
+                           size_t numbers, uint32_t *offsets, size_t offsets_room,
+                           seamwhisk_run *answer);
+
 void rules_write_plan(uint32_t period, uint32_t size, const uint32_t *delays, size_t rows,
                       const uint32_t *offsets, size_t count, uint8_t *file, size_t room,
                       seamwhisk_written *answer);

@@ -11,9 +11,11 @@
  *  - answer->number is 0, or the number of a refusal (enum seamwhisk_refusal). A function judges in
  *    the order that its comment gives; the first refusal that applies is the answer.
  *  - Every field of the answer is set. Fields that don't apply are 0; so a refusal has 0 in all
- *    fields but number and place (14 and 15 of the exact planner have their tests too).
+ *    fields but number and place (14 and 15 of the exact planner have their tests too, and joined
+ *    texts say how many were answered).
  *  - Where number is not 0 each lent buffer keeps everything it had. Where it is 0 the front part
- *    that the comment names is written, and the tail keeps what it had.
+ *    that the comment names is written, and the tail keeps what it had. (Of joined texts, those
+ *    before the one at fault keep their answers.)
  *  - Nothing is kept between calls, and no memory is allocated.
  *
  * What the caller owes: no pointer is null (with length 0 neither) or misaligned; each points to as
@@ -39,6 +41,8 @@ extern "C" {
 #define SEAMWHISK_MAX_EXACT_ROWS 8   /* rows of the exact planner: 1 to this */
 #define SEAMWHISK_MAX_TEXT 1024      /* bytes of a text table */
 #define SEAMWHISK_MAX_FILE 458       /* bytes of a plan file: no clear plan has a longer one */
+#define SEAMWHISK_MAX_TEXTS 32       /* texts joined end to end */
+#define SEAMWHISK_MAX_JOINED 32768   /* bytes of joined texts */
 
 /* The refusal numbers. In brackets: what answer->place is. "Byte" is a place in the text or file
  * that was read, counted from 0; calls on values have 0 there. */
@@ -67,7 +71,9 @@ enum seamwhisk_refusal {
     SEAMWHISK_FILE_CUT = 19,     /* plan file: its bytes end inside the tag or a number [byte] */
     SEAMWHISK_FILE_LONG = 20,    /* plan file: a number has more than four bytes [byte] */
     SEAMWHISK_FILE_GROUP = 21,   /* plan file: a number has a needless zero group [byte] */
-    SEAMWHISK_FILE_AFTER = 22    /* plan file: bytes are left over [byte] */
+    SEAMWHISK_FILE_AFTER = 22,   /* plan file: bytes are left over [byte] */
+    SEAMWHISK_JOINED = 23,       /* joined texts above 32,768 bytes [0] */
+    SEAMWHISK_TEXTS = 24         /* joined texts: a thirty-third begins [byte] */
 };
 
 /* What a refusal number means, in one line. */
@@ -97,6 +103,8 @@ static inline const char *seamwhisk_refusal(uint64_t number)
     case SEAMWHISK_FILE_LONG: return "a number of the file has more than four bytes";
     case SEAMWHISK_FILE_GROUP: return "a number of the file has a needless zero group";
     case SEAMWHISK_FILE_AFTER: return "bytes follow the plan in the file";
+    case SEAMWHISK_JOINED: return "the joined texts have more than 32,768 bytes";
+    case SEAMWHISK_TEXTS: return "there are more than 32 texts";
     default: return "no refusal number";
     }
 }
@@ -144,6 +152,21 @@ typedef struct seamwhisk_read {
     uint64_t size;
     uint64_t rows;
 } seamwhisk_read;
+
+/* The answer to one of several joined texts: what the exact planner answers, and the rows read. */
+typedef struct seamwhisk_text_answer {
+    uint64_t number; /* 0, 12, 14 or 15 */
+    uint64_t place;
+    uint64_t tests;
+    uint64_t rows;
+} seamwhisk_text_answer;
+
+/* The answer to joined texts as a whole. */
+typedef struct seamwhisk_run {
+    uint64_t number;
+    uint64_t place;
+    uint64_t texts; /* that were answered; so the index, from 0, of the text at fault */
+} seamwhisk_run;
 
 /* The answer of the file writer. */
 typedef struct seamwhisk_written {
@@ -234,6 +257,34 @@ uint64_t seamwhisk_ceiling(size_t rows);
  * are its delays. */
 void seamwhisk_read_table(const uint8_t *text, size_t length, uint32_t *delays, size_t room,
                           seamwhisk_read *answer);
+
+/* seamwhisk_plan_texts, below, with the answers as plain numbers: four an answer, in the order of
+ * the struct. */
+void seamwhisk_plan_texts_flat(const uint8_t *texts, size_t length, uint64_t budget,
+                               uint64_t *answers, size_t numbers, uint32_t *offsets,
+                               size_t offsets_room, seamwhisk_run *answer);
+
+/* Reads texts joined end to end and plans each by the exact planner, with the whole budget.
+ * Judges 23; 11 if answers_room is below 32 or offsets_room below 2,048; then text after text:
+ *   24 where a thirty-third text begins, whatever stands there, with that byte of the input;
+ *   the first fault of its lines, as seamwhisk_read_table judges them, with its place counted from
+ *   the text's own first byte; but a line that does not end within the text's first 1,024 bytes is
+ *   1, with place 0, where the input goes on past them, and 3 where it does not. 10 is not given:
+ *   bytes behind a last line begin another text.
+ * Each text before that, answer->texts of them, gets the answer that it gets alone. For text t, from
+ * 0, answers[t] has the number, place and tests of seamwhisk_exact and the rows of
+ * seamwhisk_read_table. 12, 14 and 15 are such answers and do not stop the run; if its number is 0,
+ * offsets[64*t] to offsets[64*t+rows-1] are its plan. Every other element of both lists keeps what
+ * it had. Empty input holds no text. */
+static inline void seamwhisk_plan_texts(const uint8_t *texts, size_t length, uint64_t budget,
+                                        seamwhisk_text_answer *answers, size_t answers_room,
+                                        uint32_t *offsets, size_t offsets_room,
+                                        seamwhisk_run *answer)
+{
+    size_t held = answers_room < SEAMWHISK_MAX_TEXTS ? answers_room : SEAMWHISK_MAX_TEXTS;
+    seamwhisk_plan_texts_flat(texts, length, budget, (uint64_t *)answers, 4 * held, offsets,
+                              offsets_room, answer);
+}
 
 /* Writes a plan file: the bytes 50 4D 41 01 (hex), then the numbers period, size, rows, and for
  * each row delay and offset. A number goes in groups of seven bits, lowest group first, with the

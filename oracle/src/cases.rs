@@ -2,6 +2,7 @@
 
 use crate::checker::{check, check_records, Record, Verdict};
 use crate::exact::{ceiling, exact};
+use crate::joined::plan_texts;
 use crate::link::{Refusal, Table};
 use crate::planfile::{read_plan, write_plan};
 use crate::program;
@@ -30,6 +31,24 @@ impl Lent {
     }
 }
 
+/// A part of a joined input: its bytes, so many times over.
+#[derive(Clone, Debug, PartialEq, Eq)]
+pub struct Part {
+    pub times: usize,
+    pub bytes: Vec<u8>,
+}
+
+impl Part {
+    pub fn new(times: usize, bytes: &[u8]) -> Part {
+        Part { times, bytes: bytes.to_vec() }
+    }
+}
+
+/// All parts, end to end.
+pub fn joined(parts: &[Part]) -> Vec<u8> {
+    parts.iter().flat_map(|part| part.bytes.repeat(part.times)).collect()
+}
+
 #[derive(Clone, Debug, PartialEq, Eq)]
 pub enum Case {
     Check { table: Table, offsets: Vec<u64> },
@@ -43,10 +62,11 @@ pub enum Case {
     Ceiling { rows: u64 },
     CheckRecords { period: u64, size: u64, records: Vec<Record> },
     Program { input: Vec<u8> },
+    PlanTexts { budget: u64, parts: Vec<Part>, answers: Lent, offsets: Lent },
 }
 
 /// The kinds by number; kind k has the name at k - 1.
-pub const KINDS: [&str; 11] = [
+pub const KINDS: [&str; 12] = [
     "check",
     "first_fit",
     "meta_offset",
@@ -58,6 +78,7 @@ pub const KINDS: [&str; 11] = [
     "ceiling",
     "check_records",
     "program",
+    "plan_texts",
 ];
 
 impl Case {
@@ -74,6 +95,7 @@ impl Case {
             Case::Ceiling { .. } => 9,
             Case::CheckRecords { .. } => 10,
             Case::Program { .. } => 11,
+            Case::PlanTexts { .. } => 12,
         }
     }
 
@@ -106,6 +128,13 @@ impl Case {
                 &mut line
             }
             Case::Program { input } => line.bytes(input),
+            Case::PlanTexts { budget, parts, answers, offsets } => {
+                line.one(*budget).one(parts.len() as u64);
+                for part in parts {
+                    line.one(part.times as u64).bytes(&part.bytes);
+                }
+                line.lent(answers).lent(offsets)
+            }
         };
         line.0
     }
@@ -138,6 +167,10 @@ impl Case {
                 Case::CheckRecords { period, size, records: rest.records()? }
             }
             11 => Case::Program { input: rest.bytes()? },
+            12 => {
+                let (budget, parts, answers) = (rest.one()?, rest.parts()?, rest.lent()?);
+                Case::PlanTexts { budget, parts, answers, offsets: rest.lent()? }
+            }
             _ => return None,
         };
         rest.0.is_empty().then_some(case)
@@ -182,6 +215,9 @@ impl Case {
                 verdict(check_records(*period, *size, records))
             }
             Case::Program { input } => counted(&program::run(input)),
+            Case::PlanTexts { budget, parts, answers, offsets } => {
+                planned(*budget, &joined(parts), answers, offsets)
+            }
         }
     }
 }
@@ -222,6 +258,21 @@ fn stretches(table: &Table, offsets: &[u64]) -> Vec<u64> {
         }
         Err(refusal) => vec![refusal.number, refusal.place, 0, 0, 0, 0, 0, 0],
     }
+}
+
+/// number place texts, then what changed in the lists of answers and of offsets
+fn planned(budget: u64, input: &[u8], answers: &Lent, offsets: &Lent) -> Vec<u64> {
+    let (mut given, mut plans) = (answers.numbers(), offsets.numbers());
+    let run = plan_texts(input, budget, &mut given, &mut plans);
+    let stop = [refusal(run.refusal), vec![run.texts]].concat();
+    [stop, changed(answers, &given), changed(offsets, &plans)].concat()
+}
+
+/// How many elements are no longer those that were lent, then of each its index and its value.
+fn changed(lent: &Lent, list: &[u64]) -> Vec<u64> {
+    let pairs = (0..).zip(list).filter(|&(index, &value)| value != lent.first + index);
+    let pairs: Vec<u64> = pairs.flat_map(|(index, &value)| [index, value]).collect();
+    [vec![pairs.len() as u64 / 2], pairs].concat()
 }
 
 fn widened(bytes: &[u8]) -> Vec<u64> {
@@ -294,6 +345,13 @@ impl Rest<'_> {
 
     fn table(&mut self) -> Option<Table> {
         Some(Table { period: self.one()?, size: self.one()?, delays: self.list()? })
+    }
+
+    fn parts(&mut self) -> Option<Vec<Part>> {
+        let length = self.one()?;
+        (0..length)
+            .map(|_| Some(Part { times: self.one()? as usize, bytes: self.bytes()? }))
+            .collect()
     }
 
     fn records(&mut self) -> Option<Vec<Record>> {

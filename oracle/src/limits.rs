@@ -3,7 +3,7 @@
 
 use crate::bad::{shuffled, spread, turn_crossing_2};
 use crate::brute::text_of;
-use crate::cases::{Case, Lent};
+use crate::cases::{Case, Lent, Part};
 use crate::checker::Record;
 use crate::exact::{ceiling, exact};
 use crate::link::Table;
@@ -33,6 +33,12 @@ pub fn all() -> Vec<Case> {
         left_over_files,
         light_loads,
         longest_light_loads,
+        joined_lists,
+        joined_lengths,
+        joined_mixed,
+        joined_many_rows,
+        joined_fronts,
+        joined_bytes_lost,
     ] {
         cases.extend(group());
     }
@@ -415,4 +421,125 @@ fn longest_light_loads() -> Vec<Case> {
         cases.push(spread_case(&mut random, Planner::FirstFit, link, 16));
     }
     cases
+}
+
+/// Joined texts with lists just long enough.
+fn joined(budget: u64, parts: &[Part]) -> Case {
+    let (answers, offsets) = (Lent::new(128, 20_000), Lent::new(2048, 30_000));
+    Case::PlanTexts { budget, parts: parts.to_vec(), answers, offsets }
+}
+
+/// A plan, a text without a plan, and a text of nine rows.
+fn three_texts() -> [Vec<u8>; 3] {
+    [
+        text_of(&Table::new(10, 2, &[0, 3, 7])),
+        text_of(&Table::new(3, 1, &[0, 0, 1])),
+        text_of(&Table::new(20, 1, &[1; 9])),
+    ]
+}
+
+/// Lists at and around 32 answers and 2,048 offsets, from 0 on, where some elements already have the
+/// value that is written, and up to the largest value.
+fn joined_lists() -> Vec<Case> {
+    let (texts, one_row) = (three_texts(), text_of(&Table::new(1, 1, &[0])));
+    let good: Vec<Part> = texts.iter().map(|text| Part::new(1, text)).collect();
+    let full = vec![Part::new(31, &texts[0]), Part::new(1, &one_row)];
+    let faulty = vec![Part::new(2, &texts[1]), Part::new(1, b"pma 1\n0 0\n")];
+    let from_0 = |length: usize| Lent::new(length, 0);
+    let to_the_largest = |length: usize| Lent::new(length, MOST - length as u64);
+    let lengths = [0, 1, 4, 123, 124, 127, 128, 129, 131, 132].map(|answers| (answers, 2048));
+    let more = [0, 1, 64, 1984, 2047, 2048, 2049, 2100].map(|offsets| (128, offsets));
+    let mut cases = Vec::new();
+    for (a, o) in lengths.into_iter().chain(more).chain([(132, 2100), (127, 2047)]) {
+        for (parts, answers, offsets) in [
+            (&good, from_0(a), from_0(o)),
+            (&full, to_the_largest(a), to_the_largest(o)),
+            (&faulty, from_0(a), to_the_largest(o)),
+        ] {
+            cases.push(Case::PlanTexts { budget: 16, parts: parts.clone(), answers, offsets });
+        }
+    }
+    cases
+}
+
+/// Inputs of 32,767 to 32,770 bytes: many short texts, many lines, or no line at all.
+fn joined_lengths() -> Vec<Case> {
+    let [text, none, nine] = three_texts();
+    let mut cases = Vec::new();
+    for length in [32_767, 32_768, 32_769, 32_770] {
+        for front in [vec![], vec![Part::new(5, &text)], vec![Part::new(32, &none)]] {
+            for fill in [b'\n', b' ', b'5'] {
+                let used: usize = front.iter().map(|part| part.times * part.bytes.len()).sum();
+                let fill = Part::new(length - used, &[fill]);
+                cases.push(joined(2000, &[&front[..], &[fill]].concat()));
+            }
+        }
+        let whole = length / nine.len();
+        let parts = [Part::new(whole, &nine), Part::new(1, &nine[..length % nine.len()])];
+        cases.push(joined(2000, &parts));
+    }
+    cases
+}
+
+/// 32 texts of one to eight rows, four of each, small budgets and all.
+fn joined_mixed() -> Vec<Case> {
+    let mut random = Random::new(5);
+    let mut cases = Vec::new();
+    for (period, size) in [(9, 1), (20, 2), (100, 5), (1_000_000, 62_500)] {
+        let tables = (0..32).map(|t| {
+            let delays: Vec<u64> = (0..=t % 8).map(|_| random.below(2 * period)).collect();
+            Table::new(period, size, &delays)
+        });
+        let parts: Vec<Part> = tables.map(|table| Part::new(1, &text_of(&table))).collect();
+        for budget in [0, 6, 50, 2000] {
+            cases.push(joined(budget, &parts));
+        }
+    }
+    cases
+}
+
+/// Texts of 7 to 10 and 63 to 66 rows, alone and among others; the longest text, 605 bytes, so often
+/// that the input is as long as 32 texts can be, or above 32,768 bytes.
+fn joined_many_rows() -> Vec<Case> {
+    let mut cases = Vec::new();
+    let short = Part::new(1, &text_of(&Table::new(10, 2, &[0, 3, 7])));
+    for rows in [7, 8, 9, 10, 63, 64, 65, 66] {
+        let text = text_of(&Table::new(70, 1, &vec![3; rows]));
+        for times in [1, 32] {
+            cases.push(joined(49, &[Part::new(times, &text)]));
+        }
+        cases.push(joined(49, &[short.clone(), Part::new(2, &text), short.clone()]));
+    }
+    let longest = text_of(&Table::new(1_000_000, 1_000_000, &[16_777_215; 64]));
+    for times in [1, 31, 32, 33, 54] {
+        cases.push(joined(0, &[Part::new(times, &longest)]));
+    }
+    cases
+}
+
+/// Every front of three joined texts, behind 30 others.
+fn joined_fronts() -> Vec<Case> {
+    let [text, none, _] = three_texts();
+    let last = text_of(&Table::new(1, 1, &[0]));
+    let three = [&text[..], &none, &last].concat();
+    let before = Part::new(30, &last);
+    let fronts = (0..=three.len()).map(|end| Part::new(1, &three[..end]));
+    fronts.map(|front| joined(16, &[before.clone(), front])).collect()
+}
+
+/// Three joined texts, each of their bytes 10 lost.
+fn joined_bytes_lost() -> Vec<Case> {
+    let tables = [
+        Table::new(1_000_000, 7, &[3]),
+        Table::new(10, 2, &[1677, 7216, 0, 99_999, 12]),
+        Table::new(100, 5, &[99, 98, 97, 96, 95, 94, 93, 92]),
+    ];
+    let three = tables.map(|table| text_of(&table)).concat();
+    let newlines = (0..three.len()).filter(|&place| three[place] == 10);
+    newlines
+        .map(|place| {
+            let parts = [Part::new(1, &three[..place]), Part::new(1, &three[place + 1..])];
+            joined(2000, &parts)
+        })
+        .collect()
 }

@@ -6,6 +6,8 @@ mod cases;
 mod checker;
 mod damage;
 mod exact;
+mod joined;
+mod joined_laws;
 mod limits;
 mod link;
 mod loads;

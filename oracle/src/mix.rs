@@ -2,11 +2,12 @@
 
 use crate::bad::near_the_bound;
 use crate::brute::text_of;
-use crate::cases::{Case, Lent};
+use crate::cases::{joined, Case, Lent, Part};
 use crate::checker::Record;
-use crate::damage::{damage_file, damage_text};
+use crate::damage::{damage_file, damage_joined, damage_text};
 use crate::exact::{ceiling, exact, MAX_EXACT_ROWS};
-use crate::link::{Table, CROSSINGS};
+use crate::joined::{plan_texts, FIELDS, MAX_TEXTS};
+use crate::link::{Table, CROSSINGS, MAX_ROWS};
 use crate::planfile::plan_file;
 use crate::planner::Planner;
 use crate::quick::first_fit;
@@ -15,7 +16,22 @@ use crate::random::Random;
 /// No search of a random case makes more tests than this.
 pub const MOST_TESTS: u64 = 20_000;
 
+/// The same for one text of a joined input.
+const MOST_TESTS_OF_A_TEXT: u64 = 2_000;
+
+/// Joined texts take the place of one case in 25. They are drawn apart, so that all other cases of
+/// a seed stay what they are.
 pub fn case(random: &mut Random) -> Case {
+    let mut own = random.branch();
+    let case = case_of_one_table(random);
+    if own.chance(4) {
+        joined_case(&mut own)
+    } else {
+        case
+    }
+}
+
+fn case_of_one_table(random: &mut Random) -> Case {
     match random.below(200) {
         0..=26 => check_case(random),
         27..=45 => quick_case(random, Planner::FirstFit),
@@ -194,6 +210,85 @@ pub fn read_plan_case(random: &mut Random) -> Case {
     Case::ReadPlan { file, delays, offsets }
 }
 
+/// Texts joined end to end, in about half of the cases with a damage.
+pub fn joined_case(random: &mut Random) -> Case {
+    let texts = match random.below(20) {
+        0..=14 => random.between(1, 6),
+        15..=17 => random.between(7, 31),
+        _ => random.between(32, 34),
+    };
+    let mut parts = good_texts(random, texts as usize);
+    if random.chance(50) {
+        damage_joined(random, &mut parts);
+    }
+    let budget = joined_budget(random, &joined(&parts));
+    let answers = joined_lent(random, FIELDS * MAX_TEXTS, 4);
+    let offsets = joined_lent(random, MAX_ROWS * MAX_TEXTS, 52);
+    Case::PlanTexts { budget, parts, answers, offsets }
+}
+
+/// So many good texts; where they are many some come several times over, to keep the line short.
+pub fn good_texts(random: &mut Random, texts: usize) -> Vec<Part> {
+    let mut parts = Vec::new();
+    let mut left = texts;
+    while left > 0 {
+        let times = if texts > 6 { 1 + random.place(left.min(3)) } else { 1 };
+        let shape = joined_shape(random);
+        parts.push(Part::new(times, &text_of(&of_shape(random, shape))));
+        left -= times;
+    }
+    parts
+}
+
+/// Mostly small and dense tables: plans, 14 and 15 all come often.
+fn joined_shape(random: &mut Random) -> Shape {
+    match random.below(40) {
+        0..=18 => small(random),
+        19..=33 => dense(random),
+        34..=35 => light(random),
+        36 => medium(random),
+        37 => large(random),
+        _ => {
+            let rows = random.between(9, 64);
+            (2 * rows, 1, rows, 10)
+        }
+    }
+}
+
+/// A budget around the tests of one of the texts, or for all of them. No text makes more than
+/// `MOST_TESTS_OF_A_TEXT` tests.
+fn joined_budget(random: &mut Random, input: &[u8]) -> u64 {
+    let (mut answers, mut offsets) = (vec![0; FIELDS * MAX_TEXTS], vec![0; MAX_ROWS * MAX_TEXTS]);
+    let run = plan_texts(input, MOST_TESTS_OF_A_TEXT, &mut answers, &mut offsets);
+    let answered: Vec<&[u64]> = answers.chunks(FIELDS).take(run.texts as usize).collect();
+    let long = answered.iter().any(|answer| answer[0] == 15);
+    match random.below(10) {
+        0 => random.below(20),
+        1..=4 if !answered.is_empty() => {
+            let tests = random.pick(&answered)[2];
+            (tests + random.pick(&[0, 0, 1])).saturating_sub(random.pick(&[0, 1]))
+        }
+        5..=7 if !long => random.pick(&[4_000_000_000, 4_000_000_000, 1 << 32, u64::MAX]),
+        _ => random.below(MOST_TESTS_OF_A_TEXT + 1),
+    }
+}
+
+/// A list for joined texts: mostly as long as needed or a little longer, at times shorter.
+fn joined_lent(random: &mut Random, needed: usize, more: usize) -> Lent {
+    let length = match random.below(40) {
+        0 => needed - 1,
+        1 => random.place(needed),
+        2..=10 => needed + 1 + random.place(more),
+        _ => needed,
+    };
+    let first = match random.below(10) {
+        0 => u64::from(u32::MAX) - length as u64,
+        1 | 2 => random.below(100),
+        _ => random.below(60_000),
+    };
+    Lent { length, first }
+}
+
 /// A lent buffer: mostly as long as needed, at times shorter or longer.
 fn lent(random: &mut Random, needed: usize) -> Lent {
     let length = match random.below(20) {
@@ -212,7 +307,7 @@ fn lent(random: &mut Random, needed: usize) -> Lent {
 
 /// A good table of one of several shapes.
 fn table(random: &mut Random) -> Table {
-    let (period, size, rows, delays) = match random.below(100) {
+    let shape = match random.below(100) {
         0..=34 => small(random),
         35..=64 => dense(random),
         65..=80 => medium(random),
@@ -220,12 +315,16 @@ fn table(random: &mut Random) -> Table {
         92..=93 => many_rows(random),
         _ => large(random),
     };
-    let delays = (0..rows).map(|_| random.below(delays)).collect();
-    Table { period, size, delays }
+    of_shape(random, shape)
 }
 
 /// Period, size, rows and the bound of the delays.
 type Shape = (u64, u64, u64, u64);
+
+fn of_shape(random: &mut Random, (period, size, rows, delays): Shape) -> Table {
+    let delays = (0..rows).map(|_| random.below(delays)).collect();
+    Table { period, size, delays }
+}
 
 fn small(random: &mut Random) -> Shape {
     let period = random.between(1, 12);

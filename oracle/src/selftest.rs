@@ -1,9 +1,10 @@
 //! The self-test: every rule against brute force, every vector, one line a group.
 
 use crate::brute::{self, all_lists, Taken};
-use crate::cases::{line_numbers, line_text, Case, Lent};
+use crate::cases::{joined, line_numbers, line_text, Case, Lent, Part};
 use crate::checker::{check, check_records, Record, Verdict};
 use crate::exact::{ceiling, exact};
+use crate::joined_laws;
 use crate::limits;
 use crate::link::{meet, meet_by_differences, meet_by_slots, Refusal, Table};
 use crate::loads;
@@ -20,7 +21,7 @@ use crate::vectors;
 /// A group gives the number of comparisons made, or says what differs.
 type Group = fn() -> Result<u64, String>;
 
-const GROUPS: [(&str, Group); 34] = [
+const GROUPS: [(&str, Group); 39] = [
     ("meeting: slot sets against differences", meeting),
     ("checker: the least of all collisions", checker),
     ("quick planners: the least of all free offsets", quick_planners),
@@ -51,6 +52,11 @@ const GROUPS: [(&str, Group); 34] = [
     ("files: fronts cut, bytes left over, tags wrong", file_laws),
     ("files: written and read back", files_read_back),
     ("program: what it prints", programs),
+    ("joined texts: good ones split, each text alone", joined_laws::good_inputs),
+    ("joined texts: damaged ones, byte by byte and all faults listed", joined_laws::any_inputs),
+    ("joined texts: all of up to seven pieces", joined_laws::short_inputs),
+    ("joined texts: good ones in front of any", joined_laws::texts_in_front),
+    ("joined texts: every byte 10 lost", joined_laws::lost_newlines),
     ("lent buffers: kept on refusal, tail kept", lent_buffers),
     ("case lines: read back, within their limits", case_lines),
     ("vectors: documents 01 and 02 and readings", all_vectors),
@@ -806,6 +812,19 @@ fn lent_buffers() -> Result<u64, String> {
     Ok(count)
 }
 
+fn fits_32_bits(lent: &Lent) -> bool {
+    lent.first + lent.length as u64 <= 1 << 32
+}
+
+fn joined_within_limits(parts: &[Part], answers: &Lent, offsets: &Lent) -> bool {
+    parts.iter().all(|part| part.times > 0)
+        && joined(parts).len() <= 33_000
+        && answers.length <= 132
+        && offsets.length <= 2100
+        && fits_32_bits(answers)
+        && fits_32_bits(offsets)
+}
+
 /// Does a case keep the limits that its reader may count on?
 fn within_limits(case: &Case) -> bool {
     let (lists, bytes, lents, byte_lent): (Vec<&[u64]>, &[u8], Vec<&Lent>, usize) = match case {
@@ -823,8 +842,11 @@ fn within_limits(case: &Case) -> bool {
         Case::Program { input } => (vec![], input, vec![], 0),
         Case::CheckRecords { records, .. } if records.len() > 66 => return false,
         Case::CheckRecords { .. } | Case::Ceiling { .. } => (vec![], &[], vec![], 0),
+        Case::PlanTexts { parts, answers, offsets, .. } => {
+            return joined_within_limits(parts, answers, offsets);
+        }
     };
-    let lent_fits = |lent: &&Lent| lent.length <= 80 && lent.first + lent.length as u64 <= 1 << 32;
+    let lent_fits = |lent: &&Lent| lent.length <= 80 && fits_32_bits(lent);
     let budgets = usize::from(matches!(case, Case::Exact { .. }));
     let wide = case.numbers().iter().filter(|&&number| number > u64::from(u32::MAX)).count();
     lists.iter().all(|list| list.len() <= 80)
@@ -838,11 +860,13 @@ fn case_lines() -> Result<u64, String> {
     let mut random = Random::new(9);
     let mut count = 0;
     let made: Vec<Case> = (0..50_000).map(|_| mix::case(&mut random)).collect();
-    for case in limits::all().into_iter().chain(made) {
+    let fixed = vectors::all().into_iter().map(|vector| vector.case).chain(limits::all());
+    for case in fixed.chain(made) {
         let line = line_text(&case.numbers());
         let read = line_numbers(&line).and_then(|numbers| Case::from_numbers(&numbers));
         same(&line, read.as_ref(), Some(&case))?;
-        same(&line, line.len() < 6000 && within_limits(&case), true)?;
+        let longest = if matches!(case, Case::PlanTexts { .. }) { 16_000 } else { 6000 };
+        same(&line, line.len() < longest && within_limits(&case), true)?;
         count += 1;
     }
     Ok(count)

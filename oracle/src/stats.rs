@@ -1,6 +1,7 @@
 //! How often each kind of case ends in each refusal or verdict.
 
-use crate::cases::{Case, KINDS};
+use crate::cases::{joined, Case, KINDS};
+use crate::joined::{plan_texts, FIELDS};
 use crate::link::{Table, CROSSINGS};
 use crate::planner::Planner;
 use std::collections::BTreeMap;
@@ -20,7 +21,7 @@ const QUICK: &[&str] = &[
 ];
 
 /// The outcomes that each kind can have; the kinds are those of `KINDS`.
-const POSSIBLE: [&[&str]; 11] = [
+const POSSIBLE: [&[&str]; 12] = [
     &["clear", "crossing 1", "crossing 2", "5", "6", "8", "7", "11", "17"],
     QUICK,
     QUICK,
@@ -32,13 +33,41 @@ const POSSIBLE: [&[&str]; 11] = [
     &["value", "0"],
     &["clear", "crossing 1", "crossing 2", "5", "6", "8", "7", "17"],
     &["found", "none", "1", "2", "3", "4", "5", "6", "7", "8", "9", "10", "12"],
+    JOINED,
+];
+
+/// The outcomes of joined texts: what stopped the run (`all` where nothing did), how many texts were
+/// answered, and the number of each answer.
+const JOINED: &[&str] = &[
+    "all",
+    "23",
+    "11",
+    "24",
+    "1",
+    "2",
+    "3",
+    "4",
+    "5",
+    "6",
+    "7",
+    "8",
+    "9",
+    "texts 0",
+    "texts 1-31",
+    "texts 32",
+    "answer 0",
+    "answer 12",
+    "answer 14",
+    "answer 15",
 ];
 
 /// One line a kind: every possible outcome with its count, `MISSING` where there is none.
 pub fn table(cases: &[Case]) -> String {
     let mut counts: BTreeMap<(usize, String), u64> = BTreeMap::new();
     for case in cases {
-        *counts.entry((case.kind(), outcome(case))).or_default() += 1;
+        for outcome in outcomes(case) {
+            *counts.entry((case.kind(), outcome)).or_default() += 1;
+        }
     }
     let mut lines = format!("{} cases\n", cases.len());
     for (index, possible) in POSSIBLE.iter().enumerate() {
@@ -55,6 +84,24 @@ pub fn table(cases: &[Case]) -> String {
         lines += &format!("not expected: kind {kind} outcome {name}: {count}\n");
     }
     lines
+}
+
+/// A case has one outcome, but joined texts have several.
+fn outcomes(case: &Case) -> Vec<String> {
+    let Case::PlanTexts { budget, parts, answers, offsets } = case else {
+        return vec![outcome(case)];
+    };
+    let (mut given, mut plans) = (answers.numbers(), offsets.numbers());
+    let run = plan_texts(&joined(parts), *budget, &mut given, &mut plans);
+    let stop = run.refusal.map_or("all".to_string(), |refusal| refusal.number.to_string());
+    let texts = match run.texts {
+        0 => "texts 0",
+        32 => "texts 32",
+        _ => "texts 1-31",
+    };
+    let numbers = given.chunks(FIELDS).take(run.texts as usize).map(|answer| answer[0]);
+    let numbers = numbers.map(|number| format!("answer {number}"));
+    [stop, texts.to_string()].into_iter().chain(numbers).collect()
 }
 
 fn outcome(case: &Case) -> String {

@@ -1,6 +1,6 @@
 //! The text table.
 
-use crate::link::{refuse, Refusal, MAX_DELAY, MAX_PERIOD, MAX_ROWS};
+use crate::link::{refuse, Refusal, Table, MAX_DELAY, MAX_PERIOD, MAX_ROWS};
 
 pub const MAX_TEXT: usize = 1024;
 const LINE_ONE: &[u8] = b"pma 1";
@@ -21,6 +21,22 @@ pub fn read_table(text: &[u8], list: &mut [u64]) -> Result<Read, Refusal> {
     if text.len() > MAX_TEXT {
         return refuse(1, 0);
     }
+    let (table, end) = judge_lines(text)?;
+    // "then 10 if bytes follow"; "for 10 the first byte after the last line"
+    if end < text.len() {
+        return refuse(10, end);
+    }
+    // "Last of all, 11."
+    if list.len() < table.rows() {
+        return refuse(11, 0);
+    }
+    list[..table.rows()].copy_from_slice(&table.delays);
+    Ok(Read { period: table.period, size: table.size, rows: table.rows() as u64 })
+}
+
+/// "Then lines are judged from the start, the first fault deciding." Gives the table and the first
+/// byte after its `end` line; what stands there is not looked at.
+pub fn judge_lines(text: &[u8]) -> Result<(Table, usize), Refusal> {
     let mut lines = Lines { text, next: 0 };
     let (place, line) = lines.next_line()?;
     if line != LINE_ONE {
@@ -29,12 +45,7 @@ pub fn read_table(text: &[u8], list: &mut [u64]) -> Result<Read, Refusal> {
     let (place, line) = lines.next_line()?;
     let (period, size) = line_two(line, place)?;
     let delays = row_lines(&mut lines)?;
-    // "Last of all, 11."
-    if list.len() < delays.len() {
-        return refuse(11, 0);
-    }
-    list[..delays.len()].copy_from_slice(&delays);
-    Ok(Read { period, size, rows: delays.len() as u64 })
+    Ok((Table { period, size, delays }, lines.next))
 }
 
 struct Lines<'a> {
@@ -83,10 +94,6 @@ fn row_lines(lines: &mut Lines) -> Result<Vec<u64>, Refusal> {
         let (place, line) = lines.next_line()?;
         if let Some(count) = line.strip_prefix(END) {
             end_line(count, delays.len(), place)?;
-            // "then 10 if bytes follow"; "for 10 the first byte after the last line"
-            if lines.next < lines.text.len() {
-                return refuse(10, lines.next);
-            }
             return Ok(delays);
         }
         delays.push(delay_line(line, delays.len(), place)?);

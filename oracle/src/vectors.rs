@@ -1,10 +1,10 @@
-//! Vectors: every worked table of document 01, requests One to Three of document 02, every example
+//! Vectors: every worked table of document 01, requests One to Four of document 02, every example
 //! of their decided readings, and the manual's tables, each with the answer written down. Answers
 //! are the documents' or worked out by hand; the plans of the manual's tables come from brute force
 //! over slot sets outside this program. The self-test compares the planners' with its own brute
 //! force too, up to twelve rows, the exact planner's up to six.
 
-use crate::cases::{counted, Case, Lent};
+use crate::cases::{counted, Case, Lent, Part};
 use crate::checker::Record;
 use crate::link::Table;
 use crate::planfile::TAG;
@@ -65,6 +65,20 @@ const GROUPS: &[fn() -> Vec<Vector>] = &[
     light_loads_of_64_rows,
     light_loads_of_12_rows,
     tables_of_the_manual,
+    texts_joined,
+    joined_lists_too_short,
+    joined_lists_longer,
+    joined_input_too_long,
+    thirty_third_text,
+    bytes_behind_a_text,
+    lines_not_ended,
+    lines_ended_at_the_limit,
+    joined_input_cut,
+    joined_rows,
+    joined_budgets,
+    joined_tests_one_too_many,
+    joined_faults,
+    joined_newline_lost,
 ];
 
 pub fn all() -> Vec<Vector> {
@@ -1229,4 +1243,356 @@ fn tables_of_the_manual() -> Vec<Vector> {
         planned("I3 size 30 for 29", first_fit, (1000, 30), &light, &first_30),
         planned("I3 size 30 for 29", meta_offset, (1000, 30), &light, &meta_30),
     ]
+}
+
+// Request Four. Lists are just long enough; answers begin at 5000, offsets at a million, so that
+// every number written is seen.
+
+/// What one text gets: number, tests, rows, and the plan.
+type Answered<'a> = (u64, u64, u64, &'a [u64]);
+
+const FIRST_ANSWER: Answered = (0, 3, 3, &[0, 2, 5]);
+
+fn lists_of(answers: usize, offsets: usize) -> (Lent, Lent) {
+    (Lent::new(answers, 5000), Lent::new(offsets, 1_000_000))
+}
+
+/// Texts and other bytes, each so many times; none where this is 0.
+fn joined_into(lists: (Lent, Lent), budget: u64, parts: &[(usize, &str)]) -> Case {
+    let parts = parts.iter().filter(|(times, _)| *times > 0);
+    let parts = parts.map(|&(times, text)| Part::new(times, text.as_bytes())).collect();
+    Case::PlanTexts { budget, parts, answers: lists.0, offsets: lists.1 }
+}
+
+/// The answer line: number, place, texts, then what changed in both lists.
+fn runs(name: &'static str, case: Case, stop: [u64; 2], answered: &[Answered]) -> Vector {
+    let (mut answers, mut plans) = (Vec::new(), Vec::new());
+    for (t, &(number, tests, rows, plan)) in (0..).zip(answered) {
+        answers.extend([4 * t, number, 4 * t + 1, 0, 4 * t + 2, tests, 4 * t + 3, rows]);
+        plans.extend((64 * t..).zip(plan).flat_map(|(index, &offset)| [index, offset]));
+    }
+    let texts = answered.len() as u64;
+    let answers = [vec![4 * texts], answers].concat();
+    let plans = [vec![plans.len() as u64 / 2], plans].concat();
+    is(name, case, &[vec![stop[0], stop[1], texts], answers, plans].concat())
+}
+
+/// The same with a budget of a hundred and these parts.
+fn joined(
+    name: &'static str,
+    parts: &[(usize, &str)],
+    stop: [u64; 2],
+    answered: &[Answered],
+) -> Vector {
+    runs(name, joined_into(lists_of(128, 2048), 100, parts), stop, answered)
+}
+
+fn texts_joined() -> Vec<Vector> {
+    let text = FIRST_TEXT;
+    let firsts = [FIRST_ANSWER; 32];
+    let second = "pma 1\n4 1\n0\n2\n1\n1\nend 4\n";
+    let second_answer = (0, 16, 4, &[0, 3, 1, 2][..]);
+    vec![
+        joined("Four empty", &[], [0, 0], &[]),
+        joined("Four empty", &[(1, "")], [0, 0], &[]),
+        joined("Four one", &[(1, text)], [0, 0], &firsts[..1]),
+        joined("Four two", &[(2, text)], [0, 0], &firsts[..2]),
+        joined("Four two", &[(1, text), (1, text)], [0, 0], &firsts[..2]),
+        joined("Four three", &[(3, text)], [0, 0], &firsts[..3]),
+        joined("Four three", &[(1, text), (2, text)], [0, 0], &firsts[..3]),
+        joined("Four 31", &[(31, text)], [0, 0], &firsts[..31]),
+        joined("Four 32", &[(32, text)], [0, 0], &firsts),
+        joined("Four", &[(1, text), (1, second)], [0, 0], &[FIRST_ANSWER, second_answer]),
+        joined("Four", &[(1, second), (1, text)], [0, 0], &[second_answer, FIRST_ANSWER]),
+        prints("J10", &text.repeat(2), "refused 10 23\n"),
+    ]
+}
+
+/// "then 11 if a lent list lacks 32 answers or 2,048 offsets": an answer is four numbers.
+fn joined_lists_too_short() -> Vec<Vector> {
+    let refused = |answers, offsets, number, parts: &[(usize, &str)]| {
+        runs("J4", joined_into(lists_of(answers, offsets), 100, parts), [number, 0], &[])
+    };
+    let text = (1, FIRST_TEXT);
+    vec![
+        refused(124, 2048, 11, &[]),
+        refused(127, 2048, 11, &[]),
+        refused(128, 2047, 11, &[]),
+        refused(127, 2047, 11, &[]),
+        refused(0, 0, 11, &[]),
+        refused(127, 2048, 11, &[text]),
+        refused(128, 2047, 11, &[text]),
+        refused(4, 3, 11, &[text]),
+        refused(127, 2048, 11, &[text, (1, "x\n")]),
+        refused(128, 2047, 11, &[(1, "x")]),
+        refused(127, 2048, 11, &[(33, FIRST_TEXT)]),
+        refused(127, 2048, 11, &[(32_768, "x")]),
+        refused(127, 2048, 23, &[(32_769, "x")]),
+        refused(128, 2047, 23, &[(32_769, "x")]),
+        refused(0, 0, 23, &[(32_769, "x")]),
+        refused(0, 0, 23, &[(32, FIRST_TEXT), (32_033, "\n")]),
+    ]
+}
+
+/// "A lent buffer longer than needed keeps its tail"
+fn joined_lists_longer() -> Vec<Vector> {
+    let with = |answers, offsets| joined_into(lists_of(answers, offsets), 3, &[(32, FIRST_TEXT)]);
+    let firsts = [FIRST_ANSWER; 32];
+    vec![
+        runs("J9", with(129, 2048), [0, 0], &firsts),
+        runs("J9", with(128, 2049), [0, 0], &firsts),
+        runs("J9", with(132, 2100), [0, 0], &firsts),
+    ]
+}
+
+/// 32 times the first text is 736 bytes.
+fn joined_input_too_long() -> Vec<Vector> {
+    let text = FIRST_TEXT;
+    let firsts = [FIRST_ANSWER; 32];
+    vec![
+        joined("Four 23", &[(32_769, "x")], [23, 0], &[]),
+        joined("Four 32,768", &[(32_768, "x")], [1, 0], &[]),
+        joined("Four 23", &[(32_769, "\n")], [23, 0], &[]),
+        joined("Four 32,768", &[(32_768, "\n")], [2, 0], &[]),
+        joined("Four 23", &[(1, text), (32_746, "7")], [23, 0], &[]),
+        joined("Four 32,768", &[(1, text), (32_745, "7")], [1, 0], &firsts[..1]),
+        joined("Four 32,768", &[(31, text), (32_055, "x")], [1, 0], &firsts[..31]),
+        joined("Four 23", &[(32, text), (32_033, "x")], [23, 0], &[]),
+        joined("Four 32,768", &[(32, text), (32_032, "x")], [24, 736], &firsts),
+        joined("Four 23", &[(32, text), (16_016, "x\n"), (1, "x")], [23, 0], &[]),
+        joined("Four 32,768", &[(32, text), (16_016, "x\n")], [24, 736], &firsts),
+    ]
+}
+
+/// "24 where a thirty-third text begins", whatever stands there.
+fn thirty_third_text() -> Vec<Vector> {
+    let longest = "1\n".repeat(64);
+    let (head, end) = ("pma 1\n9 1\n", "end 64\n");
+    let stops = |part: (usize, &str)| {
+        joined("J7", &[(32, FIRST_TEXT), part], [24, 736], &[FIRST_ANSWER; 32])
+    };
+    let mut vectors = vec![
+        stops((1, "x")),
+        stops((1, "\n")),
+        stops((1, " ")),
+        stops((1, FIRST_TEXT)),
+        stops((2, FIRST_TEXT)),
+        stops((1, "x\n")),
+        stops((1, "pma 1\n")),
+        stops((2000, "7")),
+    ];
+    // A text of 64 rows here has 145 bytes.
+    let text = [head, &longest, end].concat();
+    let answered = [(12, 0, 64, &[][..]); 32];
+    vectors.push(joined("J7", &[(32, &text), (1, "x")], [24, 4640], &answered));
+    vectors
+}
+
+/// "Bytes after a last line begin another text, so 10 isn't given here."
+fn bytes_behind_a_text() -> Vec<Vector> {
+    let text = FIRST_TEXT;
+    let firsts = [FIRST_ANSWER; 32];
+    let good = "pma 1\n10 2\n5\nend 1\n";
+    let mut vectors = vec![joined("J1", &[(1, good), (1, "x\n")], [2, 0], &[(0, 0, 1, &[0])])];
+    for texts in [1, 2, 16, 31] {
+        let answered = &firsts[..texts];
+        vectors.push(joined("J6", &[(texts, text), (1, "\n")], [2, 0], answered));
+        vectors.push(joined("J6", &[(texts, text), (1, "x")], [3, 0], answered));
+        vectors.push(joined("J6", &[(texts, text), (1, "\n"), (1, text)], [2, 0], answered));
+        vectors.push(joined("J6", &[(texts, text), (1, "x"), (1, text)], [2, 0], answered));
+        vectors.push(joined("J6", &[(texts, text), (1, "5\nend 4\n")], [2, 0], answered));
+    }
+    vectors
+}
+
+/// "a line not ended within the text's first 1,024 bytes gives 1 if the input goes on past them,
+/// and 3 if it doesn't": so many bytes are left from the text's first byte on.
+fn lines_not_ended() -> Vec<Vector> {
+    let fronts = ["", "pma 1\n", "pma 1\n10 2\n", "pma 1\n10 2\n3\n", "pma 1\n10 2\n3\nend "];
+    let places = [0, 6, 11, 13, 13];
+    let mut vectors = Vec::new();
+    for (front, place) in fronts.into_iter().zip(places) {
+        for (left, stop) in [(1023, [3, place]), (1024, [3, place]), (1025, [1, 0])] {
+            let line = (left - front.len(), "1");
+            let behind = joined("J5", &[(1, FIRST_TEXT), (1, front), line], stop, &[FIRST_ANSWER]);
+            vectors.extend([joined("J5", &[(1, front), line], stop, &[]), behind]);
+        }
+    }
+    vectors
+}
+
+/// Byte 10 at byte 1,023 and at byte 1,024 of the text, counted from 0.
+fn lines_ended_at_the_limit() -> Vec<Vector> {
+    let fronts = [("", [2, 0]), ("pma 1\n", [4, 6]), ("pma 1\n10 2\n3\n", [4, 13])];
+    let mut vectors = vec![
+        joined("J5", &[(1, "x\n"), (2000, "7")], [2, 0], &[]),
+        joined("J5", &[(1, FIRST_TEXT), (1, "x\n"), (2000, "7")], [2, 0], &[FIRST_ANSWER]),
+        joined("J5", &[(1, "pma 1\n10 2\n7\nend 2\n"), (2000, "7")], [9, 13], &[]),
+        joined("J5", &[(1024, "\n")], [2, 0], &[]),
+        joined("J5", &[(1025, "\n")], [2, 0], &[]),
+    ];
+    for (front, fault) in fronts {
+        for (newline, stop) in [(1022, fault), (1023, fault), (1024, [1, 0])] {
+            let line = (newline - front.len(), "1");
+            let parts = [(1, FIRST_TEXT), (1, front), line, (1, "\n"), (1, FIRST_TEXT)];
+            vectors.push(joined("J5", &parts[1..4], stop, &[]));
+            vectors.push(joined("J5", &parts[1..], stop, &[]));
+            vectors.push(joined("J5", &parts, stop, &[FIRST_ANSWER]));
+        }
+    }
+    vectors
+}
+
+/// The input ends inside a text: 3 at the line that isn't ended.
+fn joined_input_cut() -> Vec<Vector> {
+    let mut vectors = Vec::new();
+    for (length, place) in [
+        (1, 0),
+        (5, 0),
+        (6, 6),
+        (10, 6),
+        (11, 11),
+        (12, 11),
+        (13, 13),
+        (16, 15),
+        (17, 17),
+        (20, 17),
+        (21, 17),
+        (22, 17),
+    ] {
+        let cut = (1, &FIRST_TEXT[..length]);
+        vectors.push(joined("Four cut", &[cut], [3, place], &[]));
+        vectors.push(joined("Four cut", &[(1, FIRST_TEXT), cut], [3, place], &[FIRST_ANSWER]));
+    }
+    let firsts = [FIRST_ANSWER; 31];
+    vectors.push(joined("Four", &[(31, FIRST_TEXT), (1, &FIRST_TEXT[..22])], [3, 17], &firsts));
+    vectors
+}
+
+/// "refusals 12, 14 and 15 are such answers and don't stop the run"; 65 rows are a text fault.
+fn joined_rows() -> Vec<Vector> {
+    let text = |rows: usize| format!("pma 1\n10 2\n{}end {rows}\n", "5\n".repeat(rows));
+    let (nine, most) = (text(9), text(64));
+    let (nine, most) = ((1, &nine[..]), (1, &most[..]));
+    let first = (1, FIRST_TEXT);
+    let too_many = text(65);
+    let too_many = (1, &too_many[..]);
+    let none = (1, "pma 1\n1 1\n0\n0\nend 2\n");
+    let of_none: Answered = (14, 2, 2, &[]);
+    let (of_nine, of_most): (Answered, Answered) = ((12, 0, 9, &[]), (12, 0, 64, &[]));
+    vec![
+        joined("J3 12", &[nine], [0, 0], &[of_nine]),
+        joined("J3 12", &[most], [0, 0], &[of_most]),
+        joined("J3 12", &[first, nine, first], [0, 0], &[FIRST_ANSWER, of_nine, FIRST_ANSWER]),
+        joined("J3 12", &[most, first, nine], [0, 0], &[of_most, FIRST_ANSWER, of_nine]),
+        joined("J3 14", &[none, first, none], [0, 0], &[of_none, FIRST_ANSWER, of_none]),
+        joined("Four 8", &[too_many], [8, 139], &[]),
+        joined("Four 8", &[first, nine, too_many, first], [8, 139], &[FIRST_ANSWER, of_nine]),
+        joined("J9", &[nine, none, (1, "x")], [3, 0], &[of_nine, of_none]),
+        joined("J9", &[nine, first, (1, "x\n")], [2, 0], &[of_nine, FIRST_ANSWER]),
+    ]
+}
+
+/// Five worked tables at one go, each "with the whole budget"; they need 16, 3, 16, 0 and 2 tests.
+fn joined_budgets() -> Vec<Vector> {
+    let tables = [
+        (1, "pma 1\n4 1\n0\n2\n1\n1\nend 4\n"),
+        (1, FIRST_TEXT),
+        (1, "pma 1\n3 1\n0\n0\n1\nend 3\n"),
+        (1, "pma 1\n1 1\n0\nend 1\n"),
+        (1, "pma 1\n1 1\n0\n0\nend 2\n"),
+    ];
+    let plan: [Answered; 5] = [
+        (0, 16, 4, &[0, 3, 1, 2]),
+        FIRST_ANSWER,
+        (14, 16, 3, &[]),
+        (0, 0, 1, &[0]),
+        (14, 2, 2, &[]),
+    ];
+    let spent = |rows, budget| -> Answered { (15, budget, rows, &[]) };
+    let with = |budget, answered: [Answered; 5]| {
+        runs("J8", joined_into(lists_of(128, 2048), budget, &tables), [0, 0], &answered)
+    };
+    let [four, first, three, one, two] = plan;
+    vec![
+        with(0, [spent(4, 0), spent(3, 0), spent(3, 0), one, spent(2, 0)]),
+        with(1, [spent(4, 1), spent(3, 1), spent(3, 1), one, spent(2, 1)]),
+        with(2, [spent(4, 2), spent(3, 2), spent(3, 2), one, two]),
+        with(3, [spent(4, 3), first, spent(3, 3), one, two]),
+        with(4, [spent(4, 4), first, spent(3, 4), one, two]),
+        with(15, [spent(4, 15), first, spent(3, 15), one, two]),
+        with(16, [four, first, three, one, two]),
+        with(17, plan),
+        with(1 << 32, plan),
+        with(u64::MAX, plan),
+    ]
+}
+
+/// The same table 32 times: with its own number of tests as budget every text has its verdict, with
+/// one less none has.
+fn joined_tests_one_too_many() -> Vec<Vector> {
+    let four = "pma 1\n4 1\n0\n2\n1\n1\nend 4\n";
+    let three = "pma 1\n3 1\n0\n0\n1\nend 3\n";
+    let one = "pma 1\n1 1\n0\nend 1\n";
+    let with = |budget, text, answered: Answered| {
+        let case = joined_into(lists_of(128, 2048), budget, &[(32, text)]);
+        runs("J8", case, [0, 0], &[answered; 32])
+    };
+    vec![
+        with(16, four, (0, 16, 4, &[0, 3, 1, 2])),
+        with(15, four, (15, 15, 4, &[])),
+        with(16, three, (14, 16, 3, &[])),
+        with(15, three, (15, 15, 3, &[])),
+        with(3, FIRST_TEXT, FIRST_ANSWER),
+        with(2, FIRST_TEXT, (15, 2, 3, &[])),
+        with(0, FIRST_TEXT, (15, 0, 3, &[])),
+        with(0, one, (0, 0, 1, &[0])),
+    ]
+}
+
+/// Every text fault in the first text, in the middle and in the last one. With 3 the input ends
+/// there: were a byte 10 left, the line would end with it.
+fn joined_faults() -> Vec<Vector> {
+    let faults = [
+        ("pma 2\n10 2\n0\nend 1\n", [2, 0]),
+        ("pma 1\n10 2\n0\nend 1", [3, 13]),
+        ("pma 1\n10  2\n0\nend 1\n", [4, 6]),
+        ("pma 1\n10 2\n0\n-3\nend 2\n", [4, 13]),
+        ("pma 1\n10 2\n0\nend 01\n", [4, 13]),
+        ("pma 1\n1000001 2\n0\nend 1\n", [5, 6]),
+        ("pma 1\n5 6\n0\nend 1\n", [6, 6]),
+        ("pma 1\n10 2\n0\n16777216\nend 2\n", [7, 13]),
+        ("pma 1\n10 2\nend 0\n", [8, 11]),
+        ("pma 1\n10 2\n0\n37\nend 3\n", [9, 16]),
+    ];
+    let firsts = [FIRST_ANSWER; 31];
+    let mut vectors = Vec::new();
+    for texts in [0, 15, 31] {
+        let before = (texts, FIRST_TEXT);
+        for (text, stop) in faults {
+            let after = if stop[0] == 3 { 0 } else { 31 - texts };
+            let parts = [before, (1, text), (after, FIRST_TEXT)];
+            vectors.push(joined("Four faults", &parts, stop, &firsts[..texts]));
+        }
+        let parts = [before, (1, "pma 1\n10 2\n"), (1020, "7"), (31 - texts, FIRST_TEXT)];
+        vectors.push(joined("Four faults", &parts, [1, 0], &firsts[..texts]));
+    }
+    vectors
+}
+
+/// The first text three times, one byte 10 lost: in line one, in line two, where 20 is above the
+/// period, as 03, as 37, as 7end, and behind the count, where another line one or nothing comes.
+fn joined_newline_lost() -> Vec<Vector> {
+    let lost = [(5, [2, 0]), (10, [6, 6]), (12, [4, 11]), (14, [9, 16]), (16, [4, 15])];
+    let mut vectors = Vec::new();
+    for texts in 0..3 {
+        let at_end = if texts == 2 { [3, 17] } else { [4, 17] };
+        for (place, stop) in lost.into_iter().chain([(22, at_end)]) {
+            let (front, back) = (&FIRST_TEXT[..place], &FIRST_TEXT[place + 1..]);
+            let parts = [(texts, FIRST_TEXT), (1, front), (1, back), (2 - texts, FIRST_TEXT)];
+            let answered = &[FIRST_ANSWER; 2][..texts];
+            vectors.push(joined("Four byte 10 lost", &parts, stop, answered));
+        }
+    }
+    vectors
 }

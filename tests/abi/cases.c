@@ -15,8 +15,8 @@
 #define CALL(name) seamwhisk_##name
 #endif
 
-#define MOST_NUMBERS 128
-#define MOST_BYTES 2048
+#define MOST_NUMBERS 2112
+#define MOST_BYTES 33024
 #define LINE_ROOM 16384
 #define MARK UINT64_C(0xA5A5A5A5A5A5A5A5)
 
@@ -26,6 +26,8 @@ HAS(seamwhisk_checked, 5);
 HAS(seamwhisk_planned, 2);
 HAS(seamwhisk_searched, 3);
 HAS(seamwhisk_read, 5);
+HAS(seamwhisk_text_answer, 4);
+HAS(seamwhisk_run, 3);
 HAS(seamwhisk_written, 3);
 HAS(seamwhisk_reported, 8);
 
@@ -126,6 +128,7 @@ union answer {
     seamwhisk_planned planned;
     seamwhisk_searched searched;
     seamwhisk_read read;
+    seamwhisk_run run;
     seamwhisk_written written;
     seamwhisk_reported reported;
 };
@@ -212,6 +215,68 @@ static void read_table(void)
     print_lent(&delays);
 }
 
+/* The parts of joined texts, each so many times over. */
+static struct bytes joined(void)
+{
+    struct bytes texts = {{0}, 0, 0};
+    for (uint64_t parts = number(MOST_BYTES); parts > 0 && !wrong; parts--) {
+        uint64_t times = number(MOST_BYTES);
+        struct bytes part = byte_list();
+        for (; times > 0 && !wrong; times--)
+            for (size_t k = 0; k < part.length && !wrong; k++) {
+                wrong = texts.length == MOST_BYTES;
+                if (!wrong)
+                    texts.at[texts.length++] = part.at[k];
+            }
+    }
+    return texts;
+}
+
+/* The elements that are no longer as they were lent, with their indices. */
+static void print_changes(const struct numbers *list)
+{
+    size_t changed = 0;
+    for (size_t k = 0; k < list->length; k++)
+        changed += list->at[k] != list->first + (uint32_t)k;
+    printf(" %zu", changed);
+    for (size_t k = 0; k < list->length; k++)
+        if (list->at[k] != list->first + (uint32_t)k)
+            printf(" %zu %" PRIu32, k, list->at[k]);
+    for (size_t k = list->length; k < MOST_NUMBERS; k++)
+        spilt = spilt || list->at[k] != list->first + (uint32_t)k;
+}
+
+/* The same of the answers, which are numbers of 64 bits. */
+static void print_changed_answers(const uint64_t *answers, const struct numbers *lent)
+{
+    size_t changed = 0;
+    for (size_t k = 0; k < lent->length; k++)
+        changed += answers[k] != lent->at[k];
+    printf(" %zu", changed);
+    for (size_t k = 0; k < lent->length; k++)
+        if (answers[k] != lent->at[k])
+            printf(" %zu %" PRIu64, k, answers[k]);
+    for (size_t k = lent->length; k < MOST_NUMBERS; k++)
+        spilt = spilt || answers[k] != lent->at[k];
+}
+
+static void plan_texts(void)
+{
+    uint64_t budget = number(UINT64_MAX);
+    struct bytes texts = joined();
+    struct numbers first = lent();
+    struct numbers offsets = lent();
+    uint64_t answers[MOST_NUMBERS];
+    for (size_t k = 0; k < MOST_NUMBERS; k++)
+        answers[k] = first.at[k];
+    union answer answer = fresh;
+    CALL(plan_texts_flat)(texts.at, texts.length, budget, answers, first.length, offsets.at,
+                          offsets.length, &answer.run);
+    print_answer(&answer, 3);
+    print_changed_answers(answers, &first);
+    print_changes(&offsets);
+}
+
 static void write_plan(void)
 {
     struct table t = table();
@@ -279,7 +344,7 @@ int main(void)
 {
     static void (*const kinds[])(void) = {check,      first_fit,  meta_offset, exact,
                                           read_table, write_plan, read_plan,   report,
-                                          ceiling,    check_records, none};
+                                          ceiling,    check_records, none,     plan_texts};
     static char line[LINE_ROOM];
     for (unsigned long count = 1; fgets(line, sizeof line, stdin) != NULL; count++) {
         char *end = line;
@@ -288,7 +353,7 @@ int main(void)
         wrong = *end == '\0';
         *end = '\0';
         rest = line;
-        uint64_t kind = number(11);
+        uint64_t kind = number(12);
         if (wrong || kind == 0) {
             fprintf(stderr, "line %lu is not a case\n", count);
             return 1;

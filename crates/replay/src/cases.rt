@@ -61,6 +61,42 @@ pub(crate) fn bytes(line: &[u8], at: usize, out: &mut [u8]) -> Listed
     Listed { count, next }
 }
 
+// A part, `r n bytes..`: its n bytes r times over, as many as there is room for.
+fn part(line: &[u8], at: usize, out: &mut [u8]) -> Listed
+    ensures { λ r. ⌜ Counts (r .count) (now (out .exit)) ⌝ }
+{
+    let r = number(line, at);
+    let piece = bytes(line, r.next, out);
+    let n = piece.count;
+    let count = at_most(times(r.value, n as u64), out.len());
+    let mut i = n;
+    while i < count {
+        out[i] = out[i - n];
+        i += 1;
+    }
+    Listed {
+        count,
+        next: piece.next,
+    }
+}
+
+// Joined parts, `k` and k parts, as many bytes as there is room for.
+pub(crate) fn parts(line: &[u8], at: usize, out: &mut [u8]) -> Listed
+    ensures { λ r. ⌜ Counts (r .count) (now (out .exit)) ⌝ }
+{
+    let k = number(line, at);
+    let mut count: usize = 0;
+    let mut next = k.next;
+    let mut turn: u64 = 0;
+    while turn < k.value {
+        let p = part(line, next, &mut out[count..]);
+        count += p.count;
+        next = p.next;
+        turn += 1;
+    }
+    Listed { count, next }
+}
+
 // A lent list, `m f`: m elements, f, f + 1, and so on.
 pub(crate) fn lent(line: &[u8], at: usize, out: &mut [u32]) -> Listed
     ensures { λ r. ⌜ Counts (r .count) (now (out .exit)) ⌝ }
@@ -99,6 +135,31 @@ pub(crate) fn lent_bytes(line: &[u8], at: usize, out: &mut [u8]) -> Listed
     }
 }
 
+// The same of 64-bit numbers.
+pub(crate) fn lent_numbers(line: &[u8], at: usize, out: &mut [u64]) -> Listed
+    ensures { λ r. ⌜ Counts (r .count) (now (out .exit)) ⌝ }
+{
+    let m = number(line, at);
+    let f = number(line, m.next);
+    let count = at_most(m.value, out.len());
+    let mut i: usize = 0;
+    while i < count {
+        out[i] = std::num::wrapping_add_u64(f.value, i as u64);
+        i += 1;
+    }
+    Listed {
+        count,
+        next: f.next,
+    }
+}
+
+// The f of a lent list.
+pub(crate) fn first(line: &[u8], at: usize) -> u64 {
+    let m = number(line, at);
+    let f = number(line, m.next);
+    f.value
+}
+
 // A number below 2 ^ 32.
 pub(crate) fn word(n: Read) -> u32 {
     (n.value % 4294967296) as u32
@@ -106,6 +167,11 @@ pub(crate) fn word(n: Read) -> u32 {
 
 fn wide(b: u8) -> u64 {
     b as u64
+}
+
+// The product of two numbers. What they have past 32 bits is lost.
+fn times(a: u64, b: u64) -> u64 {
+    (a % 4294967296) * (b % 4294967296)
 }
 
 fn at_most(value: u64, most: usize) -> usize

@@ -93,6 +93,7 @@ fn case(line: &[u8]) {
         7 => file_and_rooms(line, at),
         9 => ceiling(line, at),
         11 => input(line, at),
+        12 => texts_and_rooms(line, at),
         _ => {}
     }
     show::end();
@@ -272,4 +273,30 @@ fn read_plan(file: &[u8], delays: &mut [u32], offsets: &mut [u32]) {
     show::five(&answer);
     show::list(delays);
     show::list(offsets);
+}
+
+// A budget, joined texts and two lent lists, for their answers and their offsets.
+fn texts_and_rooms(line: &[u8], at: usize) {
+    let budget = cases::number(line, at);
+    let mut bytes = io::large_buffer();
+    let texts = cases::parts(line, budget.next, &mut bytes);
+    let mut xs = [0u64; 132];
+    let answers = cases::lent_numbers(line, texts.next, &mut xs);
+    let mut os = [0u32; 2100];
+    let offsets = cases::lent(line, answers.next, &mut os);
+    let f = cases::first(line, texts.next);
+    let g = cases::first(line, answers.next);
+    let n = texts.count;
+    let m = answers.count;
+    let k = offsets.count;
+    plan_texts(&bytes[..n], budget.value, &mut xs[..m], &mut os[..k], f, g);
+}
+
+// The answer, and what has changed in the lists, which begin with f and with g.
+fn plan_texts(texts: &[u8], budget: u64, answers: &mut [u64], offsets: &mut [u32], f: u64, g: u64) {
+    let mut answer = [0u64; 3];
+    seamwhisk::seamwhisk_plan_texts_flat(texts, budget, answers, offsets, &mut answer);
+    show::three(&answer);
+    show::changes(answers, f);
+    show::word_changes(offsets, g);
 }

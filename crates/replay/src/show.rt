@@ -1,5 +1,6 @@
 // Printing an answer: numbers with a space between them, a case a line.
 use libc::STDOUT_FILENO;
+ghost use Prim.Native.Nat.{_≤_};
 
 // The first number of a line.
 fn first(x: u64) {
@@ -66,6 +67,71 @@ pub(crate) fn bytes(xs: &[u8]) {
     let mut i: usize = 0;
     while i < xs.len() {
         next_byte(xs[i]);
+        i += 1;
+    }
+}
+
+// What is new at index i, where `was` stood.
+fn change(i: usize, x: u64, was: u64) {
+    if x != was {
+        next(i as u64);
+        next(x);
+    }
+}
+
+// 1 for a number that is no longer what it was.
+fn differs(x: u64, was: u64) -> usize
+    ensures { λ r. ⌜ r ≤ 1 ⌝ }
+{
+    if x == was {
+        return 0;
+    }
+    1
+}
+
+// A 32-bit number as one of 64 bits.
+fn wide(x: u32) -> u64 {
+    x as u64
+}
+
+// How many numbers of a lent list, once f, f + 1, and so on, have changed.
+fn changed(xs: &[u64], f: u64) -> usize {
+    let mut n: usize = 0;
+    let mut i: usize = 0;
+    while i < xs.len() {
+        n += differs(xs[i], std::num::wrapping_add_u64(f, i as u64));
+        i += 1;
+    }
+    n
+}
+
+// The same of 32-bit numbers.
+fn changed_words(xs: &[u32], f: u64) -> usize {
+    let mut n: usize = 0;
+    let mut i: usize = 0;
+    while i < xs.len() {
+        n += differs(wide(xs[i]), std::num::wrapping_add_u64(f, i as u64));
+        i += 1;
+    }
+    n
+}
+
+// What has changed in a lent list: how many numbers, and of each its index and itself.
+pub(crate) fn changes(xs: &[u64], f: u64) {
+    next(changed(xs, f) as u64);
+    let mut i: usize = 0;
+    while i < xs.len() {
+        change(i, xs[i], std::num::wrapping_add_u64(f, i as u64));
+        i += 1;
+    }
+}
+
+// The same of 32-bit numbers.
+pub(crate) fn word_changes(xs: &[u32], f: u64) {
+    next(changed_words(xs, f) as u64);
+    let mut i: usize = 0;
+    while i < xs.len() {
+        change(i, wide(xs[i]), std::num::wrapping_add_u64(f, i as u64));
         i += 1;
     }
 }

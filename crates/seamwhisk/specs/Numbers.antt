@@ -5,6 +5,7 @@ use Rattle.ground.specs.Protocol.{Outcome, gives}
 use Rattle.link.specs.declared.Link.{Link}
 use Rattle.checker.specs.Answer.{Said as Checked}
 use Rattle.quick.specs.Answer.{Said as Planned}
+use Rattle.joined.specs.Answer.{Said as Run}
 use Rattle.planfile.specs.Answer.{ReadSaid, WrittenSaid}
 use Rattle.report.specs.Answer.{Said as Reported}
 use Rattle.search.specs.Answer.{Said as Searched}
@@ -32,6 +33,10 @@ searchedAs s = s .number ∷ s .place ∷ s .tests ∷ []
 -- number, place, period, size, rows
 abbrev pub readAs : Read → List ℕ
 readAs s = s .number ∷ s .place ∷ s .link .period ∷ s .link .size ∷ s .rows ∷ []
+
+-- number, place, texts that were answered
+abbrev pub runAs : Run → List ℕ
+runAs s = s .number ∷ s .place ∷ s .texts ∷ []
 
 -- number, place, bytes of the file
 abbrev pub writtenAs : WrittenSaid → List ℕ

@@ -2,6 +2,7 @@
 mod fill;
 
 use checker::Checked;
+use joined::Run;
 use link::Link;
 use planfile::PlanRead;
 use planfile::PlanWritten;
@@ -16,13 +17,15 @@ ghost use mathlib.Core.Path.{_≡_};
 ghost use Rattle.ground.specs.Protocol.{gives};
 ghost use Rattle.checker.specs.Answer.{said, answer as Answer·checked};
 ghost use Rattle.quick.specs.Answer.{firstFit, metaOffset};
+ghost use Rattle.joined.specs.Answer.{lists as Lists·texts, planning};
 ghost use Rattle.planfile.specs.Answer.{lists, readGives, writeGives};
 ghost use Rattle.records.specs.Columns.{delaysOf, offsetsOf};
 ghost use Rattle.report.specs.Answer.{answer as Answer·reported};
 ghost use Rattle.search.specs.Answer.{exactly};
 ghost use Rattle.search.specs.Ceilings.{ceilingUpTo};
 ghost use Rattle.text.specs.Answer.{reading};
-ghost use Rattle.seamwhisk.specs.Numbers.{linkOf, asNumbers, checkedAs, plannedAs, searchedAs, readAs, writtenAs, fileAs, reportedAs};
+ghost use Rattle.seamwhisk.specs.Numbers.{linkOf, asNumbers, checkedAs, plannedAs, searchedAs, readAs, runAs, writtenAs, fileAs};
+ghost use Rattle.seamwhisk.specs.Numbers.{reportedAs};
 
 // The checker's answer, as its numbers.
 fn checked(answer: &mut [u64; 5], r: Checked)
@@ -151,6 +154,28 @@ pub extern "C" fn seamwhisk_read_table(text: &[u8], delays: &mut [u32], answer: 
         Read::Refused { number, place } => {
             fill::five(answer, number as u64, place as u64, 0, 0, 0)
         }
+    }
+}
+
+// The answers to joined texts are a flat list, four numbers each: no slice of structs can be lent.
+#[no_mangle]
+pub extern "C" fn seamwhisk_plan_texts_flat(
+    texts: &[u8],
+    budget: u64,
+    answers: &mut [u64],
+    offsets: &mut [u32],
+    answer: &mut [u64; 3],
+)
+    ensures { λ _. ⌜ gives (now (answer .exit)) (Lists·texts (now (answers .exit)) (now (offsets .exit)))
+        ≡ asNumbers runAs (planning (now (texts .entry)) budget (Lists·texts (now (answers .entry)) (now (offsets .entry)))) ⌝ }
+{
+    match joined::plan_texts(texts, budget, answers, offsets) {
+        Run::All { texts } => fill::three(answer, 0, 0, texts as u64),
+        Run::Stopped {
+            texts,
+            number,
+            place,
+        } => fill::three(answer, number as u64, place as u64, texts as u64),
     }
 }
 

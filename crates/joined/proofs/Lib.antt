@@ -1,0 +1,14 @@
+-- Laws that belong to no one function.
+pub mod Lent
+pub mod Reading
+pub mod Steps
+pub mod Walk
+pub mod Answers
+pub mod Filled
+pub mod Joining
+pub mod Alone
+pub mod Splitting
+pub mod Running
+pub mod Accident
+pub mod Promises
+pub mod Worked
