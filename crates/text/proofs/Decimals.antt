@@ -15,8 +15,7 @@ use Rattle.ground.proofs.Bools.{and-parts, and-both}
 use Rattle.ground.proofs.Minimum.{none-has, some-at, some-none}
 use Rattle.ground.proofs.Faults.{inside, within}
 use Rattle.text.specs.Decimal.{maxDigits, naught, nine, isOther, allDigits, leadingZero, isDecimal, valueFrom, value}
-use Rattle.text.specs.Steps.{digitsSay}
-use Rattle.text.specs.declared.decimal.Number.the-variants.{Is, Not as NoNumber}
+use Rattle.text.specs.Steps.{Counted, InFront}
 
 abbrev pub Digits : List ℕ → Type 0
 Digits bs = (i : ℕ) → i < length bs → isOther (getD bs i 0) ≡ false
@@ -56,11 +55,6 @@ value-from-more n [] b = refl
 value-from-more n (x ∷ bs) b = value-from-more (n * 10 + (x - naught)) bs b
 
 -- The code stands at byte i: those before it are digits, and v is their value.
-pub record Counted (bs : List ℕ) (i v : ℕ) : Type 0 where
-  pub inside : i ≤ length bs
-  pub digits : (j : ℕ) → j < i → isOther (getD bs j 0) ≡ false
-  pub so-far : v ≡ value (take i bs)
-
 pub none-counted : (bs : List ℕ) → Counted bs 0 0
 unfolding valueFrom
 none-counted bs = record { inside = omega arith; digits = below-none _; so-far = refl }
@@ -79,28 +73,29 @@ module _ (bs : List ℕ) where
       omega (arith, value-low k (λ j m. d j (omega arith)) (omega arith), value-more k (omega arith))
 
   module _ (i v : ℕ) (w : Counted bs i v) where
-    module _ (l : i < length bs) where
-      -- before its last digit a number is below ten million
-      pub counted-low : length bs ≤ maxDigits → v < 10 ^ 7
-      counted-low h =
-          let p : 10 ^ i ≤ 10 ^ 7 = pow-le-pow-right (omega arith) {i = i} {j = 7} (omega arith) in
-          omega (arith, w .so-far, value-low i (w .digits) (w .inside))
+    -- before its last digit a number is below ten million
+    pub counted-low : i < maxDigits → v < 10 ^ 7
+    counted-low h =
+        let p : 10 ^ i ≤ 10 ^ 7 = pow-le-pow-right (omega arith) {i = i} {j = 7} (omega arith) in
+        omega (arith, w .so-far, value-low i (w .digits) (w .inside))
 
-      pub counted-more : isOther (getD bs i 0) ≡ false → Counted bs (i + 1) (v * 10 + (getD bs i 0 - naught))
-      counted-more d = record {
-        inside = omega arith;
-        digits = below-more _ i (w .digits) d;
-        so-far = rw (add-one, w .so-far) (sym (value-more i l));
-      }
+    pub counted-more : i < length bs → isOther (getD bs i 0) ≡ false → Counted bs (i + 1) (v * 10 + (getD bs i 0 - naught))
+    counted-more l d = record {
+      inside = omega arith;
+      digits = below-more _ i (w .digits) d;
+      so-far = rw (add-one, w .so-far) (sym (value-more i l));
+    }
 
-      pub other-there : isOther (getD bs i 0) ≡ true → NoNumber ≡ digitsSay bs
-      unfolding digitsSay allDigits
-      other-there e = rw (some-at (λ j. isOther (getD bs j 0)) (length bs) i l e)
+  -- the digits in front decide whether all are
+  module _ (d v : ℕ) (w : InFront bs d v) where
+    pub not-all : d < length bs → length bs ≤ maxDigits → allDigits bs ≡ false
+    unfolding allDigits
+    not-all l h = rw (some-at (λ j. isOther (getD bs j 0)) (length bs) d l (w .no-more l (omega arith)))
 
-    pub all-counted : length bs ≤ i → Is v ≡ digitsSay bs
-    unfolding digitsSay allDigits
-    all-counted h =
-        let n : i ≡ length bs = omega (arith, w .inside) in
-        let d = some-none (λ j. isOther (getD bs j 0)) (length bs) (λ j m. w .digits j (omega arith)) in
-        let e : v ≡ value bs = w .so-far ∙ rw (n, take-length) in
-        rw (d, e)
+    pub all-digits : length bs ≤ d → (allDigits bs ≡ true) × (v ≡ value bs)
+    unfolding allDigits
+    all-digits h =
+        let n : d ≡ length bs = omega (arith, w .counted .inside) in (
+          ap not (some-none (λ j. isOther (getD bs j 0)) (length bs) (λ j m. w .counted .digits j (omega arith))),
+          w .counted .so-far ∙ rw (n, take-length),
+        )

@@ -11,6 +11,7 @@ pub mod Spelling
 pub mod Finding
 pub mod Gluing
 pub mod Forms
+pub mod Numbers
 pub mod Texts
 pub mod Taken
 pub mod Cutting

@@ -8,7 +8,7 @@ use native.Mathlib.Numerals.{add-one}
 use native.Mathlib.Omega.{arith}
 use lib.Dec.{ltb, leb, eqb}
 use lib.ListN.{length, take, drop, drop-of-length-le}
-use borrow.Author.Tests.{lt-ltb, le-ltb, le-leb, lt-leb, eq-eqb, ne-eqb}
+use borrow.Author.Tests.{eq-eqb, ne-eqb}
 use Rattle.ground.specs.Judging.{Cause, when, first}
 use Rattle.ground.specs.declared.Judged.{Judged}
 use Rattle.ground.specs.declared.Judged.the-variants.{Fine, Fault}
@@ -24,11 +24,12 @@ use Rattle.text.specs.Limits.{badLine, badCount}
 use Rattle.text.specs.Bytes.{space, seek, endWord}
 use Rattle.text.specs.Decimal.{maxDigits, isDecimal, value}
 use Rattle.text.specs.Faults.{firstPart, secondPart, isPair, linkOf, isLast, countPart, placedAt, pairFaults, rowFaults, lastFaults}
-use Rattle.text.specs.Steps.{numberSays, numbersSay, pairSays, rowSays, lastSays}
+use Rattle.text.specs.Steps.{numberSays, numbersSay, pairSays, delaySays, rowSays, lastSays}
 use Rattle.text.specs.declared.decimal.Number.the-variants.{Is, Not as NoNumber}
 use Rattle.text.specs.declared.judge.Numbers.the-variants.{Are, Not}
 use Rattle.text.specs.declared.judge.Head.the-variants.{Rows, Wrong as WrongHead}
-use Rattle.text.specs.declared.judge.Line.the-variants.{More, Last, Wrong}
+use Rattle.text.specs.declared.judge.Line.{Line}
+use Rattle.text.specs.declared.judge.Line.the-variants.{Last, Wrong}
 
 no-number : isDecimal [] ≡ false
 unfolding isDecimal
@@ -153,23 +154,14 @@ module _ (n : ℕ) (l : List ℕ) (at next : ℕ) where
   unfolding rowFaults
   row-form e = refused Wrong _ (sym (hit _ _ badLine at (ap not (none l e))))
 
-  module _ (v : ℕ) (e : Is v ≡ numberSays l) where
-    row-judged : (j : Judged) → j ≡ first (when (ltb maxDelay v) badDelay at ∷ when (leb maxRows n) badRows at ∷ [])
-        → first (rowFaults n l at) ≡ j
-    unfolding rowFaults
-    row-judged j f = let w = number l v e in sym (pass _ _ badLine at (ap not (w .0)) (rw (w .1) at f))
-
-    pub row-large : maxDelay < v → Wrong badDelay at ≡ rowSays n l at next
-    row-large h = refused Wrong _ (row-judged _ (hit _ _ badDelay at (lt-ltb _ _ h)))
-
-    module _ (h : v ≤ maxDelay) where
-      pub row-many : maxRows ≤ n → Wrong badRows at ≡ rowSays n l at next
-      row-many m = refused Wrong _ (row-judged _ (pass _ _ badDelay at (le-ltb _ _ h) (hit _ _ badRows at (le-leb _ _ m))))
-
-      pub row-right : n < maxRows → More v next ≡ rowSays n l at next
-      row-right m =
-          goes-on Wrong (row-judged _ (pass _ _ badDelay at (le-ltb _ _ h) (pass _ _ badRows at (lt-leb _ _ m) fine)))
-          (ap (λ (w : ℕ). More w next) (number l v e .1))
+  -- a number is judged by its value
+  pub row-value : (v : ℕ) (r : Line) → Is v ≡ numberSays l → r ≡ delaySays n v at next → r ≡ rowSays n l at next
+  unfolding rowFaults
+  row-value v r e f =
+      let w = number l v e in
+      let j : first (rowFaults n l at) ≡ first (when (ltb maxDelay (value l)) badDelay at ∷ when (leb maxRows n) badRows at ∷ []) = sym
+      (pass _ _ badLine at (ap not (w .0)) refl) in
+      rw j (rw (w .1) at f)
 
 -- the last line behind n rows: its form, a row before it, and its count
 module _ (n : ℕ) (l : List ℕ) (at next : ℕ) where

@@ -1,9 +1,7 @@
 // Decimal numbers of 1 to 8 digits, with no leading zero but `0` itself.
 ghost use mathlib.Core.Path.{_≡_};
-ghost use Prim.Native.Nat.{_≤_};
-ghost use lib.ListN.{length};
-ghost use Rattle.text.specs.Decimal.{maxDigits, isOther, leadingZero};
-ghost use Rattle.text.specs.Steps.{digitsSay, numberSays};
+ghost use Rattle.text.specs.Decimal.{isOther, leadingZero};
+ghost use Rattle.text.specs.Steps.{InFront, numberSays};
 
 const MAX_DIGITS: usize = 8;
 
@@ -11,6 +9,12 @@ const MAX_DIGITS: usize = 8;
 pub enum Number {
     Is { value: u32 },
     Not,
+}
+
+// So many digits in front of bytes, and their value.
+pub struct Front {
+    pub value: u32,
+    pub digits: usize,
 }
 
 // A byte that is no digit.
@@ -24,7 +28,7 @@ fn is_other(byte: u8) -> bool
 }
 
 // A zero before another digit.
-fn leading_zero(bytes: &[u8]) -> bool
+pub(crate) fn leading_zero(bytes: &[u8]) -> bool
     ensures { λ r. ⌜ r ≡ leadingZero (now (bytes .entry)) ⌝ }
 {
     if bytes.len() <= 1 {
@@ -33,25 +37,27 @@ fn leading_zero(bytes: &[u8]) -> bool
     bytes[0] == b'0'
 }
 
-// The value of up to 8 bytes, if each is a digit.
-fn digits(bytes: &[u8]) -> Number
-    requires { ⌜ length (now bytes) ≤ maxDigits ⌝ }
-    ensures { λ r. ⌜ r ≡ digitsSay (now (bytes .entry)) ⌝ }
+// The digits in front of the bytes, up to 8 of them.
+pub(crate) fn digits(bytes: &[u8]) -> Front
+    ensures { λ r. ⌜ InFront (now (bytes .entry)) (r .digits) (r .value) ⌝ }
 {
     let mut value: u32 = 0;
-    let mut i = 0;
-    while i < bytes.len() {
-        let b = bytes[i];
+    let mut digits: usize = 0;
+    while digits < bytes.len() {
+        if digits >= MAX_DIGITS {
+            return Front { value, digits };
+        }
+        let b = bytes[digits];
         if is_other(b) {
-            return Number::Not;
+            return Front { value, digits };
         }
         value = value * 10 + (b - b'0') as u32;
-        i += 1;
+        digits += 1;
     }
-    Number::Is { value }
+    Front { value, digits }
 }
 
-// The number that the bytes are, in one pass.
+// The number that the bytes are.
 pub(crate) fn read(bytes: &[u8]) -> Number
     ensures { λ r. ⌜ r ≡ numberSays (now (bytes .entry)) ⌝ }
 {
@@ -64,5 +70,9 @@ pub(crate) fn read(bytes: &[u8]) -> Number
     if leading_zero(bytes) {
         return Number::Not;
     }
-    digits(bytes)
+    let front = digits(bytes);
+    if front.digits < bytes.len() {
+        return Number::Not;
+    }
+    Number::Is { value: front.value }
 }

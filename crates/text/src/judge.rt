@@ -15,7 +15,7 @@ ghost use mathlib.Core.Path.{_≡_};
 ghost use mathlib.Core.Bool.{true};
 ghost use Rattle.ground.specs.Judging.{first};
 ghost use Rattle.text.specs.Faults.{isLast, titleFaults};
-ghost use Rattle.text.specs.Steps.{numbersSay, pairSays, rowSays, lastSays};
+ghost use Rattle.text.specs.Steps.{numbersSay, pairSays, rowSays, delaySays, lastSays};
 
 // The length of `end` and a space.
 const END_WORD: usize = 4;
@@ -106,22 +106,27 @@ pub(crate) fn row_line(line: &[u8], at: usize, rows: usize, next: usize) -> Line
             number: BAD_LINE,
             place: at,
         },
-        Number::Is { value } => {
-            if value > MAX_DELAY {
-                return Line::Wrong {
-                    number: BAD_DELAY,
-                    place: at,
-                };
-            }
-            if rows >= MAX_ROWS {
-                return Line::Wrong {
-                    number: BAD_ROWS,
-                    place: at,
-                };
-            }
-            Line::More { delay: value, next }
-        }
+        Number::Is { value } => delay_line(value, at, rows, next),
     }
+}
+
+// A row whose number is read: 7, 8.
+pub(crate) fn delay_line(delay: u32, at: usize, rows: usize, next: usize) -> Line
+    ensures { λ r. ⌜ r ≡ delaySays rows delay at next ⌝ }
+{
+    if delay > MAX_DELAY {
+        return Line::Wrong {
+            number: BAD_DELAY,
+            place: at,
+        };
+    }
+    if rows >= MAX_ROWS {
+        return Line::Wrong {
+            number: BAD_ROWS,
+            place: at,
+        };
+    }
+    Line::More { delay, next }
 }
 
 // The last line, behind so many rows: 4, 8, 9.

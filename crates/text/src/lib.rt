@@ -15,6 +15,7 @@ use link::Link;
 use link::limits::BAD_LENGTH;
 use link::limits::MAX_ROWS;
 ghost use mathlib.Core.Path.{_≡_};
+ghost use mathlib.Core.Bool.{true};
 ghost use Prim.Native.Nat.{_≤_, _+_};
 ghost use lib.Dec.{leb};
 ghost use lib.ListN.{length, drop};
@@ -23,7 +24,7 @@ ghost use Rattle.link.specs.Limits.{maxRows};
 ghost use Rattle.text.specs.Bytes.{newline, seek};
 ghost use Rattle.text.specs.Answer.{said, reading};
 ghost use Rattle.text.specs.TextAnswer.{textSaid, readingText};
-ghost use Rattle.text.specs.Steps.{headSays, secondSays, lineSays, Kept};
+ghost use Rattle.text.specs.Steps.{headSays, secondSays, lineSays, NumberLine, Kept};
 ghost use Rattle.text.specs.declared.judge.Head.the-variants.{Rows};
 
 // What the text says: its table, or the first fault.
@@ -170,8 +171,38 @@ fn second(text: &[u8], at: usize) -> Head
     judge::line_two(&text[at..end], at, end + 1)
 }
 
-// A line behind so many rows, which begins at `at`: 3, then what is wrong with it by itself.
+// A line behind so many rows, which begins at `at`. Nearly all are a number and byte 10, which one look at each byte tells.
 fn next_line(text: &[u8], at: usize, rows: usize) -> Line
+    requires { ⌜ at ≤ length (now text) ⌝ }
+    ensures { λ r. ⌜ r ≡ lineSays (now (text .entry)) at rows ⌝ }
+{
+    let front = decimal::digits(&text[at..]);
+    let end = at + front.digits;
+    if is_number(text, at, end) {
+        return judge::delay_line(front.value, at, rows, end + 1);
+    }
+    any_line(text, at, rows)
+}
+
+// The digits from `at` to `end` are a number, and their line ends there.
+fn is_number(text: &[u8], at: usize, end: usize) -> bool
+    requires { ⌜ (at ≤ end) × (end ≤ length (now text)) ⌝ }
+    ensures { λ r. ⌜ (r ≡ true → NumberLine (now (text .entry)) at end) ⌝ }
+{
+    if end <= at {
+        return false;
+    }
+    if is_cut(text, end) {
+        return false;
+    }
+    if text[end] != b'\n' {
+        return false;
+    }
+    !decimal::leading_zero(&text[at..end])
+}
+
+// Any line behind so many rows, which begins at `at`: 3, then what is wrong with it by itself.
+fn any_line(text: &[u8], at: usize, rows: usize) -> Line
     requires { ⌜ at ≤ length (now text) ⌝ }
     ensures { λ r. ⌜ r ≡ lineSays (now (text .entry)) at rows ⌝ }
 {
