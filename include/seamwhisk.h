@@ -11,11 +11,11 @@
  *  - answer->number is 0, or the number of a refusal (enum seamwhisk_refusal). A function judges in
  *    the order that its comment gives; the first refusal that applies is the answer.
  *  - Every field of the answer is set. Fields that don't apply are 0; so a refusal has 0 in all
- *    fields but number and place (14 and 15 of the exact planner have their tests too, and joined
- *    texts say how many were answered).
+ *    fields but number and place (14 and 15 of the exact planner have their tests too, joined
+ *    texts how many were answered, and each of their answers the rows).
  *  - Where number is not 0 each lent buffer keeps everything it had. Where it is 0 the front part
- *    that the comment names is written, and the tail keeps what it had. (Of joined texts, those
- *    before the one at fault keep their answers.)
+ *    that the comment names is written, and the tail keeps what it had. (seamwhisk_plan_texts says
+ *    which parts it writes, and that the answers before a text at fault stand.)
  *  - Nothing is kept between calls, and no memory is allocated.
  *
  * What the caller owes: no pointer is null (with length 0 neither) or misaligned; each points to as
@@ -73,7 +73,7 @@ enum seamwhisk_refusal {
     SEAMWHISK_FILE_GROUP = 21,   /* plan file: a number has a needless zero group [byte] */
     SEAMWHISK_FILE_AFTER = 22,   /* plan file: bytes are left over [byte] */
     SEAMWHISK_JOINED = 23,       /* joined texts above 32,768 bytes [0] */
-    SEAMWHISK_TEXTS = 24         /* joined texts: a thirty-third begins [byte] */
+    SEAMWHISK_TEXTS = 24         /* joined texts: a thirty-third begins [byte of them] */
 };
 
 /* What a refusal number means, in one line. */
@@ -104,7 +104,7 @@ static inline const char *seamwhisk_refusal(uint64_t number)
     case SEAMWHISK_FILE_GROUP: return "a number of the file has a needless zero group";
     case SEAMWHISK_FILE_AFTER: return "bytes follow the plan in the file";
     case SEAMWHISK_JOINED: return "the joined texts have more than 32,768 bytes";
-    case SEAMWHISK_TEXTS: return "there are more than 32 texts";
+    case SEAMWHISK_TEXTS: return "bytes follow the thirty-second text";
     default: return "no refusal number";
     }
 }
@@ -259,7 +259,7 @@ void seamwhisk_read_table(const uint8_t *text, size_t length, uint32_t *delays, 
                           seamwhisk_read *answer);
 
 /* seamwhisk_plan_texts, below, with the answers as plain numbers: four an answer, in the order of
- * the struct. */
+ * the struct, so that 11 comes below 128 of them. */
 void seamwhisk_plan_texts_flat(const uint8_t *texts, size_t length, uint64_t budget,
                                uint64_t *answers, size_t numbers, uint32_t *offsets,
                                size_t offsets_room, seamwhisk_run *answer);

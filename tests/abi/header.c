@@ -26,6 +26,7 @@ static int joined(size_t room, uint64_t number, uint64_t texts)
         wrong += answers[t].rows != 3 || plan[0] != 0 || plan[1] != 2 || plan[2] != 5;
         wrong += plan[3] != 0x09090909;
     }
+    wrong += texts == 0 && offsets[0] != 0x09090909;
     return wrong + (answers[texts].rows != UINT64_C(0x0909090909090909));
 }
 

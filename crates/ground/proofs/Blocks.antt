@@ -27,7 +27,7 @@ module _ (a w : ℕ) (xs g : List ℕ) (room : a + w ≤ length xs) (fits : leng
   abbrev written : List ℕ
   written = take a xs ++ onFront g (drop a xs)
 
-  pub before-it : take a written ≡ take a xs
+  before-it : take a written ≡ take a xs
   before-it = take-at (take a xs) (onFront g (drop a xs)) a (length-take-le a xs (omega arith))
 
   from-it : drop a written ≡ onFront g (drop a xs)
@@ -36,7 +36,7 @@ module _ (a w : ℕ) (xs g : List ℕ) (room : a + w ≤ length xs) (fits : leng
   rest : ℕ
   rest = w - length g
 
-  pub behind-it : drop (a + w) written ≡ drop (a + w) xs
+  behind-it : drop (a + w) written ≡ drop (a + w) xs
   unfolding rest
   behind-it =
       let n : length g + rest ≡ w = omega arith in
@@ -44,7 +44,7 @@ module _ (a w : ℕ) (xs g : List ℕ) (room : a + w ≤ length xs) (fits : leng
       ∙ drop-append-add g (drop (length g) (drop a xs)) rest ∙ drop-drop rest (length g) (drop a xs)
       ∙ ap (λ (m : ℕ). drop m (drop a xs)) n ∙ drop-drop w a xs
 
-  pub in-it : take w (drop a written) ≡ onFront g (take w (drop a xs))
+  in-it : take w (drop a written) ≡ onFront g (take w (drop a xs))
   unfolding rest
   in-it =
       let n : length g + rest ≡ w = omega arith in
@@ -54,7 +54,7 @@ module _ (a w : ℕ) (xs g : List ℕ) (room : a + w ≤ length xs) (fits : leng
       ∙ ap (λ (ys : List ℕ). g ++ ys) (sym (part-of-front (length g) rest (drop a xs) l))
       ∙ ap (λ (m : ℕ). onFront g (take m (drop a xs))) n
 
-  pub as-long : length written ≡ length xs
+  as-long : length written ≡ length xs
   as-long =
       omega (
         arith,
@@ -90,7 +90,7 @@ module _ (w n : ℕ) (xs : List ℕ) (s g : ℕ → List ℕ) (b : Series w n xs
   inside : (t : ℕ) → t < n → w * t + w ≤ length (s t)
   inside t h = omega (arith, long t (omega arith), apart t n h, b .room)
 
-  -- what no text has written into is as it was
+  -- what stands behind the blocks that are written is as it was
   pub behind : (t : ℕ) → t ≤ n → drop (w * t) (s t) ≡ drop (w * t) xs
   behind zero h = ap (drop (w * 0)) (b .start)
   behind (suc t) h =

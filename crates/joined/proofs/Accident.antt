@@ -1,12 +1,13 @@
 -- A text among joined ones that has lost one byte 10, or is refused alone, stops the run. Assumes nothing.
 use mathlib.Core.Path.{_≡_, refl, sym, ap, _∙_}
+use mathlib.Core.Bool.{Bool, true, false}
 use mathlib.Core.List.{List, [], _∷_, _++_, append-assoc}
-use Prim.Native.Nat.{ℕ, _≤_, _<_}
+use Prim.Native.Nat.{ℕ, _≤_, _<_, _+_, _-_}
 use native.Mathlib.Omega.{arith}
 use lib.Dec.{ltb, leb}
 use lib.ListN.{length, getD, take, drop, take-append-drop, length-append}
-use lib.Seq.{take-all}
-use borrow.Author.Tests.{leb-true, le-ltb}
+use lib.Seq.{take-all, take-append-add}
+use borrow.Author.Tests.{leb-true, le-ltb, ne-eqb}
 use Rattle.ground.specs.Judging.{first, andThen}
 use Rattle.ground.specs.Protocol.{Outcome, gives, keeping, unless}
 use Rattle.ground.specs.declared.Judged.{Judged}
@@ -16,7 +17,7 @@ use Rattle.ground.proofs.Faults.{pass, front-hit, front-pass, allNumbers, numbe
 use Rattle.ground.proofs.Bools.{never}
 use Rattle.link.specs.Range.{GoodTable}
 use Rattle.link.specs.declared.Link.{Link}
-use Rattle.text.specs.Limits.{maxText, longText}
+use Rattle.text.specs.Limits.{maxText, longText, cutLine}
 use Rattle.text.specs.Bytes.{newline}
 use Rattle.text.specs.Faults.{textFaults, rowsOf, endOf, lateFaults, readFaults}
 use Rattle.text.specs.Answer.{Said, refusing, said as readSaid, accepted, reading, tableLink, delaysOf}
@@ -24,6 +25,7 @@ use Rattle.text.specs.declared.Read.the-variants.{Refused}
 use Rattle.text.specs.Writing.{glue, textOf}
 use Rattle.text.proofs.Saying.{unsaid}
 use Rattle.text.proofs.Taken.{begins-with-its-text}
+use Rattle.text.proofs.Behind.{fault-stands}
 use Rattle.text.proofs.Lost.{lost-in-front}
 use Rattle.joined.specs.Texts.{beginOf, splitCut, faultFrom}
 use Rattle.joined.specs.Meaning.{joinedOf, Accepted, AllAccepted}
@@ -31,7 +33,7 @@ use Rattle.joined.proofs.Steps.{fine-back}
 use Rattle.joined.proofs.Joining.{text-long, table-text, behind-all}
 
 -- what is joined does not begin with byte 10
-pub no-newline : (ts : List (List ℕ)) → AllAccepted ts → (r : List ℕ) → joinedOf ts ≡ newline ∷ r → ⊥
+no-newline : (ts : List (List ℕ)) → AllAccepted ts → (r : List ℕ) → joinedOf ts ≡ newline ∷ r → ⊥
 unfolding joinedOf glue
 no-newline [] all r e = omega (arith, ap length e)
 no-newline (y ∷ ys) all r e =
@@ -54,7 +56,7 @@ begins-so w e =
     )
 
 -- a text with one byte 10 lost, before joined texts, is never read as one
-pub never-read : (a b : List ℕ) (ts : List (List ℕ)) → Accepted (a ++ newline ∷ b) → AllAccepted ts
+never-read : (a b : List ℕ) (ts : List (List ℕ)) → Accepted (a ++ newline ∷ b) → AllAccepted ts
     → first (textFaults (take maxText ((a ++ b) ++ joinedOf ts))) ≡ Fine → ⊥
 never-read a b ts y all e =
     let w = table-text (a ++ newline ∷ b) y in
@@ -90,6 +92,11 @@ own-lines z old n p new short low e = judged (told (keeping refusing old) (first
         ∙ ap (λ (o : Outcome Said (List ℕ)). Fault (o .says .number) (o .says .place)) (sym g))
     judged (through f g) = never (cc (ap (λ (o : Outcome Said (List ℕ)). unsaid (o .says)) g))
 
+-- another fault than 3 is not split
+not-split : (b : Bool) (n p : ℕ) → (n ≡ cutLine → ⊥) → splitCut Fault b n p ≡ Fault n p
+not-split true n p other = rw (ne-eqb n cutLine other)
+not-split false n p other = refl
+
 -- the first fault of the text behind joined ones
 module _ (ts : List (List ℕ)) (z : List ℕ) (all : AllAccepted ts) where
   abbrev x : List ℕ
@@ -106,6 +113,17 @@ module _ (ts : List (List ℕ)) (z : List ℕ) (all : AllAccepted ts) where
   own-fault old n p new short low e =
       let g = own-lines z old n p new short low e in
       fault-behind ∙ rw (le-ltb maxText (length z) short, take-all maxText z short, g)
+
+-- the same with anything behind it, where its fault is in a line that ends
+pub fault-before : (ts : List (List ℕ)) (y z : List ℕ) (all : AllAccepted ts) (old : List ℕ) (n p : ℕ) (new : List ℕ)
+    → length y ≤ maxText → n < 10 → (n ≡ cutLine → ⊥) → gives (readSaid (Refused n p)) new ≡ reading y old
+    → faultFrom (joinedOf ts ++ (y ++ z)) (beginOf (joinedOf ts ++ (y ++ z)) (length ts)) ≡ Fault n p
+fault-before ts y z all old n p new short low other e =
+    let m = maxText - length y in
+    let l : length y + m ≡ maxText = omega arith in
+    let w : take maxText (y ++ z) ≡ y ++ take m z = ap (λ (k : ℕ). take k (y ++ z)) (sym l) ∙ take-append-add y z m in
+    let f = fault-stands y (take m z) n p other (own-lines y old n p new short low e) in
+    fault-behind ts (y ++ z) all ∙ rw (w, f) (not-split (ltb maxText (length (y ++ z))) n p other)
 
 -- the first fault behind the texts ts where the next one has lost a byte 10 and others follow
 abbrev pub damagedFault : List (List ℕ) → List (List ℕ) → List ℕ → List ℕ → Judged

@@ -30,7 +30,7 @@ text-long k ds = omega arith
 
 -- the text of a table stands at the byte `at`
 module _ (x : List ℕ) (at : ℕ) (rest : List ℕ) (k : Link) (ds : List ℕ) (g : GoodTable k ds) (e : drop at x ≡ textOf k ds ++ rest) where
-  pub read-there : ReadAs (textFrom x at) k ds (length (textOf k ds))
+  read-there : ReadAs (textFrom x at) k ds (length (textOf k ds))
   read-there =
       let n = maxText - length (textOf k ds) in
       let l : length (textOf k ds) + n ≡ maxText = omega (arith, text-short k ds g) in
@@ -38,7 +38,7 @@ module _ (x : List ℕ) (at : ℕ) (rest : List ℕ) (k : Link) (ds : List ℕ) 
       ∙ take-append-add (textOf k ds) rest n in
       rw y (text-behind k ds (take n rest) g)
 
-  pub fine-there : faultFrom x at ≡ Fine
+  fine-there : faultFrom x at ≡ Fine
   fine-there = fine-from x at (read-there .fine)
 
   next-there : drop (at + endOf (textFrom x at)) x ≡ rest
@@ -75,7 +75,7 @@ module _ (ts : List (List ℕ)) (z : List ℕ) (all : AllAccepted ts) where
       ∙ ap (λ (y : List ℕ). y ++ (joinedOf (drop (suc t) ts) ++ z)) e
 
   -- what stands from text t on
-  pub from-text : (t : ℕ) → t ≤ length ts → drop (beginOf input t) input ≡ joinedOf (drop t ts) ++ z
+  from-text : (t : ℕ) → t ≤ length ts → drop (beginOf input t) input ≡ joinedOf (drop t ts) ++ z
   unfolding beginOf
   from-text zero h = refl
   from-text (suc t) h =

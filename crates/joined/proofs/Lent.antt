@@ -13,7 +13,7 @@ pub in-front : (xs vs : List ℕ) → length vs ≤ length xs → sets xs 0 vs �
 in-front xs vs h = sets-eq vs xs 0 (omega arith) ∙ rw zero-add
 
 -- the list from a place on was lent, and is put back
-pub put-back : (a : ℕ) (xs ys : List ℕ) → a ≤ length xs → putMid a (length xs - a) xs ys ≡ take a xs ++ ys
-put-back a xs ys h =
+pub tail-back : (a : ℕ) (xs ys : List ℕ) → a ≤ length xs → putMid a (length xs - a) xs ys ≡ take a xs ++ ys
+tail-back a xs ys h =
     ap (λ (z : List ℕ). take a xs ++ (ys ++ z)) (post-is a (length xs) xs h ∙ drop-length xs)
     ∙ ap (λ (z : List ℕ). take a xs ++ z) (append-nil ys)

@@ -1,6 +1,6 @@
 -- Laws that belong to no one function.
 pub mod Lent
-pub mod Reading
+pub mod Told
 pub mod Steps
 pub mod Walk
 pub mod Answers

@@ -8,7 +8,7 @@ use lib.ListN.{length, drop, length-append}
 use Rattle.ground.specs.Protocol.{gives}
 use Rattle.ground.proofs.Answers.{no-second-outcome}
 use Rattle.link.specs.Limits.{maxRows}
-use Rattle.text.specs.Limits.{maxText}
+use Rattle.text.specs.Limits.{maxText, cutLine}
 use Rattle.text.specs.Bytes.{newline}
 use Rattle.text.specs.Answer.{said as readSaid, reading}
 use Rattle.text.specs.declared.Read.the-variants.{Refused}
@@ -23,7 +23,7 @@ use Rattle.joined.proofs.Answers.{unsaid, again}
 use Rattle.joined.proofs.Joining.{table-text, all-answered}
 use Rattle.joined.proofs.Splitting.{front}
 use Rattle.joined.proofs.Running.{count, going, few, kept, as-alone, all-done, stopped-by, one-too-many}
-use Rattle.joined.proofs.Accident.{some-byte, lost-fault, own-fault}
+use Rattle.joined.proofs.Accident.{some-byte, lost-fault, own-fault, fault-before}
 
 -- "Show that no second answer satisfies it": nor a second content of the lists
 pub no-second : (x : List ℕ) (budget : ℕ) (l : Lists) (r s : Run) (m other : Lists) → gives (said r) m ≡ planning x budget l
@@ -88,13 +88,23 @@ module _ (ts : List (List ℕ)) (z : List ℕ) (all : AllAccepted ts) (most : le
       → (r ≡ Stopped (length ts) tooManyTexts (length (joinedOf ts))) × AsAlone ts budget l m × KeptFrom (length ts) l m
   thirty-third h some = one-too-many ts z all most budget l f r m e some (omega arith)
 
-  -- "At the first text fault stop, and give that text's index with its own place": a text that `read_table` refuses alone, with 10 and 11
-  -- aside, refuses the run as the last one with the same number and place
+  -- "At the first text fault stop, and give that text's index with its own place": where the last text is one that `read_table` refuses
+  -- alone, with 1 to 9, the run stops at it with the same number and place
   pub fault-as-alone : length ts < maxTexts → 1 ≤ length z → length z ≤ maxText → (old : List ℕ) (n p : ℕ) (new : List ℕ) → n < 10
       → gives (readSaid (Refused n p)) new ≡ reading z old
       → (r ≡ Stopped (length ts) n p) × AsAlone ts budget l m × KeptFrom (length ts) l m
   fault-as-alone h some short old n p new low g =
       stopped-by ts z all most budget l f r m e some n p h (own-fault ts z all old n p new short low g)
+
+-- Where other bytes follow it, this holds of each number but 3, which says that its line does not end: with bytes behind it, it may.
+pub fault-before-others : (ts : List (List ℕ)) (y z : List ℕ) → AllAccepted ts → length ts < maxTexts → 1 ≤ length y → length y ≤ maxText
+    → (budget : ℕ) (l : Lists) → Fits (joinedOf ts ++ (y ++ z)) l → (r : Run) (m : Lists)
+    → gives (said r) m ≡ planning (joinedOf ts ++ (y ++ z)) budget l → (old : List ℕ) (n p : ℕ) (new : List ℕ) → n < 10 → (n ≡ cutLine → ⊥)
+    → gives (readSaid (Refused n p)) new ≡ reading y old
+    → (r ≡ Stopped (length ts) n p) × AsAlone ts budget l m × KeptFrom (length ts) l m
+fault-before-others ts y z all h some short budget l f r m e old n p new low other g =
+    stopped-by ts (y ++ z) all (omega arith) budget l f r m e (omega (arith, length-append y z)) n p h
+    (fault-before ts y z all old n p new short low other g)
 
 -- Two rows are never joined into one: where one of the texts has lost one byte 10, wherever it stood, the run stops at that text, and the
 -- texts before it have their answers.

@@ -27,7 +27,7 @@ use Rattle.joined.specs.Answer.{Lists, lists, answerAs, planOf, inFront}
 use Rattle.joined.specs.Steps.{stepGives}
 use Rattle.joined.specs.declared.Step.{Step}
 use Rattle.joined.specs.declared.Step.the-variants.{Next, Wrong}
-use Rattle.joined.proofs.Reading.{WholeText}
+use Rattle.joined.proofs.Told.{WholeText}
 
 -- the first 1,024 bytes, or all that there are
 pub first-bytes : (x : List ℕ) (at r : ℕ) → r ≡ cond (ltb maxText (length x - at)) maxText (length x - at)

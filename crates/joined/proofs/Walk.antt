@@ -28,7 +28,7 @@ use Rattle.joined.specs.declared.Run.the-variants.{All, Stopped}
 use Rattle.joined.specs.Steps.{stepGives}
 use Rattle.joined.specs.declared.Step.{Step}
 use Rattle.joined.specs.declared.Step.the-variants.{Next, Wrong}
-use Rattle.joined.proofs.Lent.{put-back}
+use Rattle.joined.proofs.Lent.{tail-back}
 use Rattle.joined.proofs.Steps.{fine-back}
 
 -- the first t texts are answered, in the lists m that were l, and text t begins at the byte `at`
@@ -83,7 +83,7 @@ lent-is t m = rw (tail-part (m .answers) (answerSize * t), tail-part (m .offsets
 back-is : (t : ℕ) (m rest : Lists) → answerSize * t ≤ length (m .answers) → maxRows * t ≤ length (m .offsets)
     → backFrom t m rest ≡ putBack t m rest
 back-is t m rest a o =
-    rw (put-back (answerSize * t) (m .answers) (rest .answers) a, put-back (maxRows * t) (m .offsets) (rest .offsets) o)
+    rw (tail-back (answerSize * t) (m .answers) (rest .answers) a, tail-back (maxRows * t) (m .offsets) (rest .offsets) o)
 
 unchanged : (t : ℕ) (m : Lists) → putBack t m (fromText t m) ≡ m
 unchanged t m = rw (take-append-drop (answerSize * t) (m .answers), take-append-drop (maxRows * t) (m .offsets))

@@ -136,11 +136,11 @@ fn plan_text(texts: &[u8], at: usize, budget: u64, answers: &mut [u64], offsets:
     ensures { λ r. ⌜ gives r (lists (now (answers .exit)) (now (offsets .exit)))
         ≡ stepGives (now (texts .entry)) at budget (lists (now (answers .entry)) (now (offsets .entry))) ⌝ }
 {
-    let room = texts.len() - at;
-    let end = at + at_most(room);
+    let left = texts.len() - at;
+    let end = at + at_most(left);
     let mut delays = [0u32; MAX_ROWS];
     match text::read_text(&texts[at..end], &mut delays) {
-        Text::Refused { number, place } => wrong(room, number, place),
+        Text::Refused { number, place } => wrong(left, number, place),
         Text::Whole {
             link,
             rows,
@@ -194,12 +194,13 @@ fn write_answer(numbers: &mut [u64], answer: Answer, rows: usize)
     }
 }
 
-fn four(numbers: &mut [u64], a: u64, b: u64, c: u64, d: u64)
+// They go into the front of the list.
+fn four(numbers: &mut [u64], number: u64, place: u64, tests: u64, rows: u64)
     requires { ⌜ answerSize ≤ length (now numbers) ⌝ }
-    ensures { λ _. ⌜ now (numbers .exit) ≡ onFront (a ∷ b ∷ c ∷ d ∷ []) (now (numbers .entry)) ⌝ }
+    ensures { λ _. ⌜ now (numbers .exit) ≡ onFront (number ∷ place ∷ tests ∷ rows ∷ []) (now (numbers .entry)) ⌝ }
 {
-    numbers[0] = a;
-    numbers[1] = b;
-    numbers[2] = c;
-    numbers[3] = d;
+    numbers[0] = number;
+    numbers[1] = place;
+    numbers[2] = tests;
+    numbers[3] = rows;
 }

@@ -14,6 +14,7 @@ pub mod Forms
 pub mod Numbers
 pub mod Texts
 pub mod Taken
+pub mod Behind
 pub mod Cutting
 pub mod Lost
 pub mod Places

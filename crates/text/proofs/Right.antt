@@ -29,14 +29,14 @@ pub record Right (x : List ℕ) (n : ℕ) : Type 0 where
   pub few : n ≤ maxRows
 
 module _ (x : List ℕ) where
-  each-fine : (m : ℕ) → first (linesFaults x m) ≡ Fine → (k : ℕ) → k < m → first (lineFaults x k) ≡ Fine
+  pub each-fine : (m : ℕ) → first (linesFaults x m) ≡ Fine → (k : ℕ) → k < m → first (lineFaults x k) ≡ Fine
   unfolding linesFaults
   each-fine zero e k l = absurd (omega arith)
   each-fine (suc m) e k l =
       let w = front-fine (linesFaults x m) (lineFaults x m) e in
       ⊎-elim (λ h. each-fine m (w .0) k h) (λ h. let z : k ≡ m = omega arith in rw z (w .1)) (lt-or-ge k m)
 
-  all-fine : (m : ℕ) → ((k : ℕ) → k < m → Fine ≡ first (lineFaults x k)) → Fine ≡ first (linesFaults x m)
+  pub all-fine : (m : ℕ) → ((k : ℕ) → k < m → Fine ≡ first (lineFaults x k)) → Fine ≡ first (linesFaults x m)
   unfolding linesFaults
   all-fine zero h = fine
   all-fine (suc m) h = front-pass _ _ Fine (sym (all-fine m (λ k l. h k (omega arith)))) (h m (omega arith))

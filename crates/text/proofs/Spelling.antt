@@ -87,9 +87,6 @@ module _ (n : ℕ) (h : n < 10 ^ 8) where
   pub digits-value : value (digits n) ≡ n
   digits-value = spells 7 n h .same-value
 
-  pub digits-some : 1 ≤ length (digits n)
-  digits-some = spells 7 n h .spelt .some-digit
-
   pub digits-short : length (digits n) ≤ maxDigits
   digits-short = spells 7 n h .spelt .short
 

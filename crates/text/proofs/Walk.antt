@@ -64,7 +64,7 @@ head-told (Fault m q) k at n p e = cc
 
 module _ (x : List ℕ) where
   -- a fault of an early line stands
-  stays : (k m n p : ℕ) → k ≤ m → first (linesFaults x k) ≡ Fault n p → first (linesFaults x m) ≡ Fault n p
+  pub stays : (k m n p : ℕ) → k ≤ m → first (linesFaults x k) ≡ Fault n p → first (linesFaults x m) ≡ Fault n p
   unfolding linesFaults
   stays k zero n p l e = let z : k ≡ 0 = omega arith in rw z at e
   stays k (suc m) n p l e =

@@ -26,14 +26,14 @@ use Rattle.text.proofs.Promises.{no-second, no-second-text, table-or-re
 use Rattle.text.proofs.Promises.{lost-newline, long-text}
 
 -- `pma 1`, `10 2`, `0`, `3`, and then `7`, `end 3`, with a byte 10 behind each but the `3`
-abbrev front : List ℕ
+abbrev pub front : List ℕ
 front = 112 ∷ 109 ∷ 97 ∷ 32 ∷ 49 ∷ 10 ∷ 49 ∷ 48 ∷ 32 ∷ 50 ∷ 10 ∷ 48 ∷ 10 ∷ 51 ∷ []
 
-abbrev back : List ℕ
+abbrev pub back : List ℕ
 back = 55 ∷ 10 ∷ 101 ∷ 110 ∷ 100 ∷ 32 ∷ 51 ∷ 10 ∷ []
 
 -- the text, the same without the byte 10 between 3 and 7, and the same with a byte behind it
-abbrev text : List ℕ
+abbrev pub text : List ℕ
 text = front ++ 10 ∷ back
 
 abbrev joined : List ℕ

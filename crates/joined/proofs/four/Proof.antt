@@ -23,7 +23,7 @@ same-length : tie.Need-same-length
 same-length c = search needs
 
 returns : tie.Need-returns
-returns c = let w = c .args in in-front (w .numbers .now) (w .a ∷ w .b ∷ w .c ∷ w .d ∷ []) (c .pre)
+returns c = let w = c .args in in-front (w .numbers .now) (w .number ∷ w .place ∷ w .tests ∷ w .rows ∷ []) (c .pre)
 
 pub four-spec : {M : Type 1} → statement M
 four-spec =

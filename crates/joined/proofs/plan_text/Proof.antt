@@ -1,14 +1,14 @@
 -- The text is read from its first 1,024 bytes: its fault is split, or its table is planned and answered in front of the lists.
 use mathlib.Core.Path.{sym}
 use lib.Seq.{length-take-le}
-use Rattle.joined.proofs.Reading.{whole-told, fault-told}
+use Rattle.joined.proofs.Told.{whole-told, fault-told}
 use Rattle.joined.proofs.Steps.{first-bytes, ends-inside, wrong-step, next-step}
 use borrow.Author.Needs.{needs}
 use Rattle.joined.proofs.plan_text.Statement.{statement}
 use Rattle.joined.proofs.plan_text.Tie as tie
 
-sub-room : tie.Need-sub-room
-sub-room c = search needs
+sub-left : tie.Need-sub-left
+sub-left c = search needs
 
 at-most-requires : tie.Need-at-most-requires
 at-most-requires c κs = search needs
@@ -91,7 +91,7 @@ pub plan-text-spec : {M : Type 1} → statement M
 plan-text-spec =
     tie.close
     (tie.spec
-    sub-room
+    sub-left
     at-most-requires
     add-end
     sub-read-text
