@@ -4,6 +4,7 @@ use crate::checker::{check, check_records, Record, Verdict};
 use crate::exact::{ceiling, exact};
 use crate::joined::plan_texts;
 use crate::link::{Refusal, Table};
+use crate::oneslot::one_slot;
 use crate::planfile::{read_plan, write_plan};
 use crate::program;
 use crate::quick::{first_fit, meta_offset};
@@ -63,10 +64,11 @@ pub enum Case {
     CheckRecords { period: u64, size: u64, records: Vec<Record> },
     Program { input: Vec<u8> },
     PlanTexts { budget: u64, parts: Vec<Part>, answers: Lent, offsets: Lent },
+    OneSlot { table: Table, lent: Lent },
 }
 
 /// The kinds by number; kind k has the name at k - 1.
-pub const KINDS: [&str; 12] = [
+pub const KINDS: [&str; 13] = [
     "check",
     "first_fit",
     "meta_offset",
@@ -79,6 +81,7 @@ pub const KINDS: [&str; 12] = [
     "check_records",
     "program",
     "plan_texts",
+    "one_slot",
 ];
 
 impl Case {
@@ -96,6 +99,7 @@ impl Case {
             Case::CheckRecords { .. } => 10,
             Case::Program { .. } => 11,
             Case::PlanTexts { .. } => 12,
+            Case::OneSlot { .. } => 13,
         }
     }
 
@@ -106,7 +110,9 @@ impl Case {
             Case::Check { table, offsets } | Case::Report { table, offsets } => {
                 line.one(table.period).one(table.size).list(&table.delays).list(offsets)
             }
-            Case::FirstFit { table, lent } | Case::MetaOffset { table, lent } => {
+            Case::FirstFit { table, lent }
+            | Case::MetaOffset { table, lent }
+            | Case::OneSlot { table, lent } => {
                 line.one(table.period).one(table.size).list(&table.delays).lent(lent)
             }
             Case::Exact { table, budget, lent } => {
@@ -171,6 +177,7 @@ impl Case {
                 let (budget, parts, answers) = (rest.one()?, rest.parts()?, rest.lent()?);
                 Case::PlanTexts { budget, parts, answers, offsets: rest.lent()? }
             }
+            13 => Case::OneSlot { table: rest.table()?, lent: rest.lent()? },
             _ => return None,
         };
         rest.0.is_empty().then_some(case)
@@ -217,6 +224,11 @@ impl Case {
             Case::Program { input } => counted(&program::run(input)),
             Case::PlanTexts { budget, parts, answers, offsets } => {
                 planned(*budget, &joined(parts), answers, offsets)
+            }
+            Case::OneSlot { table, lent } => {
+                let mut list = lent.numbers();
+                let answer = one_slot(table, &mut list);
+                [refusal(answer.err()), list].concat()
             }
         }
     }

@@ -39,6 +39,9 @@ pub fn all() -> Vec<Case> {
         joined_many_rows,
         joined_fronts,
         joined_bytes_lost,
+        one_slot_limits,
+        one_slot_rows,
+        one_slot_moves,
     ] {
         cases.extend(group());
     }
@@ -542,4 +545,64 @@ fn joined_bytes_lost() -> Vec<Case> {
             joined(2000, &parts)
         })
         .collect()
+}
+
+fn one_slot(period: u64, size: u64, delays: &[u64], length: usize) -> Case {
+    Case::OneSlot { table: Table::new(period, size, delays), lent: Lent::new(length, MOST - 80) }
+}
+
+/// One-slot messages with period, size and list at their limits.
+fn one_slot_limits() -> Vec<Case> {
+    let rows = &[0, 2, 1, 1];
+    let links = [(1_000_000, 1), (4, MOST)].map(|(period, size)| one_slot(period, size, rows, 4));
+    let lists = [0, 80].map(|length| one_slot(4, 1, rows, length));
+    links.into_iter().chain(lists).collect()
+}
+
+/// A list too short for 64 rows, 65 rows, and 64 rows with periods from 64 to a million.
+fn one_slot_rows() -> Vec<Case> {
+    let mut random = Random::new(6);
+    let mut cases = Vec::new();
+    for (rows, length) in [(64, 63), (65, 65)] {
+        cases.push(one_slot(100, 1, &vec![3; rows], length));
+    }
+    for period in [64, 65, 100, 126, 127, 1_000_000] {
+        let delays: Vec<u64> = (0..64).map(|_| random.below(BIG_DELAY)).collect();
+        cases.push(one_slot(period, 1, &delays, 64));
+    }
+    cases.push(one_slot(1_000_000, 1, &[BIG_DELAY - 1; 64], 80));
+    cases
+}
+
+/// Found by search. P = 64: 28 moves, 683 rows tried in vain, 13 at the last row.
+#[rustfmt::skip]
+const REFUSED_LATE: [u64; 64] = [
+    0, 57, 53, 39, 45, 4, 52, 36, 41, 37, 27, 60, 38, 39, 49, 51,
+    47, 44, 41, 47, 41, 36, 31, 31, 53, 31, 45, 40, 40, 22, 29, 15,
+    23, 16, 9, 7, 8, 5, 3, 63, 60, 4, 6, 2, 56, 62, 61, 60,
+    59, 56, 46, 47, 33, 33, 33, 27, 27, 27, 27, 8, 27, 43, 41, 22,
+];
+
+/// P = 65: a plan after 29 moves, 628 rows tried in vain.
+#[rustfmt::skip]
+const TRIED_LONG: [u64; 64] = [
+    0, 58, 44, 32, 38, 60, 58, 36, 62, 61, 56, 57, 40, 39, 45, 30,
+    22, 38, 41, 30, 40, 40, 30, 26, 35, 34, 18, 30, 19, 27, 32, 21,
+    10, 13, 6, 5, 1, 5, 63, 60, 57, 2, 63, 60, 55, 52, 63, 53,
+    57, 53, 48, 47, 47, 24, 22, 22, 22, 35, 10, 29, 15, 9, 61, 22,
+];
+
+/// P = 66: a plan after 31 moves, as many as there can be.
+#[rustfmt::skip]
+const MOVED_MOST: [u64; 64] = [
+    0, 48, 9, 18, 46, 55, 64, 43, 14, 17, 55, 5, 56, 4, 49, 41,
+    51, 53, 63, 53, 63, 57, 63, 42, 42, 46, 44, 41, 49, 42, 49, 43,
+    55, 25, 25, 25, 25, 25, 25, 25, 25, 30, 29, 26, 18, 22, 19, 7,
+    29, 29, 18, 15, 4, 7, 5, 62, 28, 23, 4, 3, 65, 47, 47, 13,
+];
+
+/// Tables of 64 rows with much to try.
+fn one_slot_moves() -> Vec<Case> {
+    let tables = [(64, REFUSED_LATE), (65, TRIED_LONG), (66, MOVED_MOST)];
+    tables.map(|(period, delays)| one_slot(period, 1, &delays, 64)).to_vec()
 }

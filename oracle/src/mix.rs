@@ -8,6 +8,7 @@ use crate::damage::{damage_file, damage_joined, damage_text};
 use crate::exact::{ceiling, exact, MAX_EXACT_ROWS};
 use crate::joined::{plan_texts, FIELDS, MAX_TEXTS};
 use crate::link::{Table, CROSSINGS, MAX_ROWS};
+use crate::moving::{few_delays, moving, spread_then};
 use crate::planfile::plan_file;
 use crate::planner::Planner;
 use crate::quick::first_fit;
@@ -32,7 +33,7 @@ pub fn case(random: &mut Random) -> Case {
 }
 
 fn case_of_one_table(random: &mut Random) -> Case {
-    match random.below(200) {
+    match random.below(216) {
         0..=26 => check_case(random),
         27..=45 => quick_case(random, Planner::FirstFit),
         46..=62 => quick_case(random, Planner::MetaOffset),
@@ -43,6 +44,7 @@ fn case_of_one_table(random: &mut Random) -> Case {
         163..=177 => report_case(random),
         178 => Case::Ceiling { rows: random.pick(&[0, 1, 2, 3, 4, 5, 6, 7, 8, 9, 13, 64, 65]) },
         179..=186 => records_case(random),
+        187..=202 => one_slot_case(random),
         _ => program_case(random),
     }
 }
@@ -112,6 +114,38 @@ fn quick_case(random: &mut Random, planner: Planner) -> Case {
     spoil(random, &mut table, &mut vec![0], 20);
     let lent = lent(random, table.rows());
     planner.case(table, lent)
+}
+
+/// Half of the tables are made so that rows move; some have few delays, some wide periods.
+pub fn one_slot_case(random: &mut Random) -> Case {
+    let mut table = match random.below(20) {
+        0..=7 => moving(random),
+        8..=9 => spread_then(random),
+        10..=13 => few_delays(random),
+        14..=16 => any_one_slot(random),
+        _ => wide(random),
+    };
+    if random.chance(4) {
+        table.size = random.between(2, 9).min(table.period);
+    }
+    spoil(random, &mut table, &mut vec![0], 12);
+    let lent = lent(random, table.rows());
+    Case::OneSlot { table, lent }
+}
+
+/// Any table with no more slots than can be needed, few rows mostly.
+fn any_one_slot(random: &mut Random) -> Table {
+    let rows = if random.chance(70) { random.between(1, 9) } else { random.between(10, 64) };
+    let period = random.between(rows.saturating_sub(1).max(1), 2 * rows + 1);
+    of_shape(random, (period, 1, rows, 3 * period))
+}
+
+/// More slots than needed, up to a million.
+fn wide(random: &mut Random) -> Table {
+    let rows = random.between(1, 64);
+    let period = random.pick(&[2 * rows - 1, 2 * rows, 1000, 65_536, 999_999, 1_000_000]);
+    let delays = random.pick(&[period, 1 << 24]);
+    of_shape(random, (period.max(rows), 1, rows, delays))
 }
 
 fn exact_case(random: &mut Random) -> Case {

@@ -9,6 +9,7 @@ use crate::limits;
 use crate::link::{meet, meet_by_differences, meet_by_slots, Refusal, Table};
 use crate::loads;
 use crate::mix::{self, turn_to_the_end, turned};
+use crate::oneslot_laws;
 use crate::planfile::{read_plan, seven_bit_groups, write_plan, TAG};
 use crate::program;
 use crate::quick::{first_fit, meta_offset};
@@ -21,7 +22,7 @@ use crate::vectors;
 /// A group gives the number of comparisons made, or says what differs.
 type Group = fn() -> Result<u64, String>;
 
-const GROUPS: [(&str, Group); 39] = [
+const GROUPS: [(&str, Group); 48] = [
     ("meeting: slot sets against differences", meeting),
     ("checker: the least of all collisions", checker),
     ("quick planners: the least of all free offsets", quick_planners),
@@ -57,6 +58,15 @@ const GROUPS: [(&str, Group); 39] = [
     ("joined texts: all of up to seven pieces", joined_laws::short_inputs),
     ("joined texts: good ones in front of any", joined_laws::texts_in_front),
     ("joined texts: every byte 10 lost", joined_laws::lost_newlines),
+    ("one slot: the least of all assignments", oneslot_laws::all_assignments),
+    ("one slot: the first of all threes, larger tables", oneslot_laws::all_threes),
+    ("one slot: order of judging, list kept on refusal", oneslot_laws::judging),
+    ("one slot: Hall's criterion against all plans", oneslot_laws::halls_criterion),
+    ("one slot: clear, First Fit's plan, no move from 2n-1 slots on", oneslot_laws::laws),
+    ("one slot: crossing 2 turned", oneslot_laws::turns),
+    ("one slot: the first three offsets of a moved row", oneslot_laws::first_offsets_are_enough),
+    ("one slot: the last period with a refused table", oneslot_laws::last_refused_period),
+    ("one slot: two to 64 rows refused, or moved at 2n-2 slots", oneslot_laws::refused_and_moved),
     ("lent buffers: kept on refusal, tail kept", lent_buffers),
     ("case lines: read back, within their limits", case_lines),
     ("vectors: documents 01 and 02 and readings", all_vectors),
@@ -770,9 +780,9 @@ fn buffers(case: &Case, answer: &[u64]) -> Vec<(Vec<u64>, Vec<u64>, usize)> {
         buffers
     };
     match case {
-        Case::FirstFit { table, lent } | Case::MetaOffset { table, lent } => {
-            split(2, &[(lent.numbers(), table.rows() as u64)])
-        }
+        Case::FirstFit { table, lent }
+        | Case::MetaOffset { table, lent }
+        | Case::OneSlot { table, lent } => split(2, &[(lent.numbers(), table.rows() as u64)]),
         Case::Exact { table, lent, .. } => split(3, &[(lent.numbers(), table.rows() as u64)]),
         Case::ReadTable { lent, .. } => split(5, &[(lent.numbers(), answer[4])]),
         Case::WritePlan { lent, .. } => {
@@ -833,6 +843,7 @@ fn within_limits(case: &Case) -> bool {
         }
         Case::FirstFit { table, lent }
         | Case::MetaOffset { table, lent }
+        | Case::OneSlot { table, lent }
         | Case::Exact { table, lent, .. } => (vec![&table.delays], &[], vec![lent], 0),
         Case::ReadTable { text, lent } => (vec![], text, vec![lent], 0),
         Case::WritePlan { table, offsets, lent } => {
@@ -886,11 +897,12 @@ fn all_vectors() -> Result<u64, String> {
 
 /// The planners on the tables of their vectors, against brute force where that is quick enough.
 fn planner_vectors() -> Result<u64, String> {
-    let (mut quick, mut searched) = (Vec::new(), Vec::new());
+    let (mut quick, mut searched, mut moved) = (Vec::new(), Vec::new(), Vec::new());
     for vector in vectors::all() {
         match vector.case {
             Case::FirstFit { table, .. } | Case::MetaOffset { table, .. } => quick.push(table),
             Case::Exact { table, .. } => searched.push(table),
+            Case::OneSlot { table, .. } => moved.push(table),
             _ => {}
         }
     }
@@ -904,5 +916,9 @@ fn planner_vectors() -> Result<u64, String> {
     for table in &searched {
         same(table, exact_answer(table)?, brute::exact(table))?;
     }
-    Ok((2 * quick.len() + searched.len()) as u64)
+    moved.retain(|table| table.judge().is_ok() && table.rows() <= 6);
+    for table in &moved {
+        oneslot_laws::by_all_threes(table)?;
+    }
+    Ok((2 * quick.len() + searched.len() + moved.len()) as u64)
 }

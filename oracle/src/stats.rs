@@ -3,6 +3,7 @@
 use crate::cases::{joined, Case, KINDS};
 use crate::joined::{plan_texts, FIELDS};
 use crate::link::{Table, CROSSINGS};
+use crate::oneslot::{enough, place_all};
 use crate::planner::Planner;
 use std::collections::BTreeMap;
 
@@ -21,7 +22,7 @@ const QUICK: &[&str] = &[
 ];
 
 /// The outcomes that each kind can have; the kinds are those of `KINDS`.
-const POSSIBLE: [&[&str]; 12] = [
+const POSSIBLE: [&[&str]; 13] = [
     &["clear", "crossing 1", "crossing 2", "5", "6", "8", "7", "11", "17"],
     QUICK,
     QUICK,
@@ -34,6 +35,7 @@ const POSSIBLE: [&[&str]; 12] = [
     &["clear", "crossing 1", "crossing 2", "5", "6", "8", "7", "17"],
     &["found", "none", "1", "2", "3", "4", "5", "6", "7", "8", "9", "10", "12"],
     JOINED,
+    ONE_SLOT,
 ];
 
 /// The outcomes of joined texts: what stopped the run (`all` where nothing did), how many texts were
@@ -59,6 +61,24 @@ const JOINED: &[&str] = &[
     "answer 12",
     "answer 14",
     "answer 15",
+];
+
+/// The outcomes of one-slot messages: how many moves a plan took, and whether a refused table has more
+/// slots than rows. From 2n-1 slots on there is neither a move nor a 13.
+const ONE_SLOT: &[&str] = &[
+    "plan",
+    "plan at bound",
+    "1 move",
+    "2-5 moves",
+    "more moves",
+    "5",
+    "6",
+    "8",
+    "7",
+    "11",
+    "25",
+    "13",
+    "13 P above n",
 ];
 
 /// One line a kind: every possible outcome with its count, `MISSING` where there is none.
@@ -123,6 +143,9 @@ fn outcome(case: &Case) -> String {
         Case::MetaOffset { table, .. } if [0, 13].contains(&answer[0]) => {
             quick_outcome(Planner::MetaOffset, table, answer[0])
         }
+        Case::OneSlot { table, .. } if [0, 13].contains(&answer[0]) => {
+            one_slot_outcome(table).to_string()
+        }
         _ if answer[0] > 0 => answer[0].to_string(),
         Case::Check { .. } | Case::CheckRecords { .. } => match answer[4] {
             0 => "clear".to_string(),
@@ -147,6 +170,22 @@ fn quick_outcome(planner: Planner, table: &Table, number: u64) -> String {
         _ if count + 1 == enough => format!("{name} below bound"),
         13 if count > enough => format!("{name} above bound"),
         _ => name.to_string(),
+    }
+}
+
+fn one_slot_outcome(table: &Table) -> &'static str {
+    let (rows, period) = (table.rows() as u64, table.period);
+    let moves = place_all(table).map(|placed| placed.moves.len());
+    match moves {
+        Ok(0) if period == enough(rows) => "plan at bound",
+        Ok(0) => "plan",
+        Ok(_) if period >= enough(rows) => "move at bound",
+        Ok(1) => "1 move",
+        Ok(2..=5) => "2-5 moves",
+        Ok(_) => "more moves",
+        Err(_) if period >= enough(rows) => "13 at bound",
+        Err(_) if period > rows => "13 P above n",
+        Err(_) => "13",
     }
 }
 

@@ -1,4 +1,5 @@
-//! Vectors: every worked table of document 01, requests One to Four of document 02, every example
+//! Vectors: every worked table of document 01, requests One to Four of document 02 (those of Five
+//! stand in `oneslot_vectors`), every example
 //! of their decided readings, and the manual's tables, each with the answer written down. Answers
 //! are the documents' or worked out by hand; the plans of the manual's tables come from brute force
 //! over slot sets outside this program. The self-test compares the planners' with its own brute
@@ -7,6 +8,7 @@
 use crate::cases::{counted, Case, Lent, Part};
 use crate::checker::Record;
 use crate::link::Table;
+use crate::oneslot_vectors;
 use crate::planfile::TAG;
 
 pub struct Vector {
@@ -82,16 +84,16 @@ const GROUPS: &[fn() -> Vec<Vector>] = &[
 ];
 
 pub fn all() -> Vec<Vector> {
-    GROUPS.iter().flat_map(|group| group()).collect()
+    GROUPS.iter().chain(oneslot_vectors::GROUPS).flat_map(|group| group()).collect()
 }
 
 // How the cases are made. A lent list of m elements starts at 90, lent bytes at 200.
 
-fn list(length: usize) -> Lent {
+pub fn list(length: usize) -> Lent {
     Lent::new(length, 90)
 }
 
-fn is(name: &'static str, case: Case, answer: &[u64]) -> Vector {
+pub fn is(name: &'static str, case: Case, answer: &[u64]) -> Vector {
     Vector { name, case, answer: answer.to_vec() }
 }
 
@@ -1073,16 +1075,16 @@ fn stretches_at_limits() -> Vec<Vector> {
 // last one: in crossing 1 / in crossing 2.
 
 /// A quick planner, by how its cases are made here.
-type Call = fn(u64, u64, &[u64], usize) -> Case;
+pub type Call = fn(u64, u64, &[u64], usize) -> Case;
 
 /// 13 at the last row, with a list that stays as it was.
-fn last_refused(name: &'static str, call: Call, link: (u64, u64), delays: &[u64]) -> Vector {
+pub fn last_refused(name: &'static str, call: Call, link: (u64, u64), delays: &[u64]) -> Vector {
     let rows = delays.len();
     let case = call(link.0, link.1, delays, rows);
     is(name, case, &[&[13, rows as u64 - 1], &list(rows).numbers()[..]].concat())
 }
 
-fn planned(
+pub fn planned(
     name: &'static str,
     call: Call,
     (period, size): (u64, u64),
