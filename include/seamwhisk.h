@@ -61,7 +61,7 @@ enum seamwhisk_refusal {
     SEAMWHISK_BUFFER = 11,       /* lent buffer too short; for checker, report and writer, not as
                                     many offsets as rows [0] */
     SEAMWHISK_EXACT_ROWS = 12,   /* exact planner, 9 to 64 rows [0] */
-    SEAMWHISK_NO_OFFSET = 13,    /* quick planner: no offset for a row [row] */
+    SEAMWHISK_NO_OFFSET = 13,    /* quick or one-slot planner: no offset for a row [row] */
     SEAMWHISK_NO_BUILD = 14,     /* no whole build [0] */
     SEAMWHISK_BUDGET_SPENT = 15, /* test budget spent [0] */
     SEAMWHISK_FILE_TAG = 16,     /* plan file: wrong tag [0] */
@@ -73,7 +73,8 @@ enum seamwhisk_refusal {
     SEAMWHISK_FILE_GROUP = 21,   /* plan file: a number has a needless zero group [byte] */
     SEAMWHISK_FILE_AFTER = 22,   /* plan file: bytes are left over [byte] */
     SEAMWHISK_JOINED = 23,       /* joined texts above 32,768 bytes [0] */
-    SEAMWHISK_TEXTS = 24         /* joined texts: a thirty-third begins [byte of them] */
+    SEAMWHISK_TEXTS = 24,        /* joined texts: a thirty-third begins [byte of them] */
+    SEAMWHISK_NOT_ONE_SLOT = 25  /* one-slot planner: size is not 1 [0] */
 };
 
 /* What a refusal number means, in one line. */
@@ -105,6 +106,7 @@ static inline const char *seamwhisk_refusal(uint64_t number)
     case SEAMWHISK_FILE_AFTER: return "bytes follow the plan in the file";
     case SEAMWHISK_JOINED: return "the joined texts have more than 32,768 bytes";
     case SEAMWHISK_TEXTS: return "bytes follow the thirty-second text";
+    case SEAMWHISK_NOT_ONE_SLOT: return "the one-slot planner takes the message size 1 only";
     default: return "no refusal number";
     }
 }
@@ -131,7 +133,7 @@ static inline int seamwhisk_is_clear(const seamwhisk_checked *answer)
     return answer->number == SEAMWHISK_NOT_REFUSED && answer->crossing == 0;
 }
 
-/* The answer of a quick planner. */
+/* The answer of a quick planner, or of the one-slot planner. */
 typedef struct seamwhisk_planned {
     uint64_t number;
     uint64_t place;
@@ -220,6 +222,19 @@ void seamwhisk_first_fit(uint32_t period, uint32_t size, const uint32_t *delays,
  * 3*rows-2. */
 void seamwhisk_meta_offset(uint32_t period, uint32_t size, const uint32_t *delays, size_t rows,
                            uint32_t *offsets, size_t room, seamwhisk_planned *answer);
+
+/* The one-slot planner, for messages of one slot: as First Fit, but where a row has no free offset
+ * one earlier row may be moved to let it in. Of all choices of an earlier row, a new offset for it
+ * and an offset for the new row with which the rows so far are clear, it takes the one with the
+ * least earlier row, then the least new offset of that row, then the least offset of the new row.
+ * Nothing but that one row moves. A later row may move a row again.
+ * Judges 5, 6, 8, 7 (least row), 11 if room is below rows, 25 if the size is not 1, then 13 with
+ * the first row that has no free offset and that no such move lets in. 13 says that this planner
+ * gave up, not that the table has no plan. It never comes where P is at least 2*rows-1.
+ * Otherwise number is 0 and offsets[0] to offsets[rows-1] are the plan; where First Fit has a plan,
+ * it is the same one. */
+void seamwhisk_one_slot(uint32_t period, uint32_t size, const uint32_t *delays, size_t rows,
+                        uint32_t *offsets, size_t room, seamwhisk_planned *answer);
 
 /* The exact planner, for 1 to 8 rows.
  * Row 0 stands at offset 0. A step names a row j not yet placed, a placed row i and a crossing; it

@@ -169,26 +169,34 @@ static void check(void)
     print_answer(&answer, 5);
 }
 
-static void first_fit(void)
+/* What first_fit, meta_offset and one_slot are called alike. */
+typedef void planner(uint32_t, uint32_t, const uint32_t *, size_t, uint32_t *, size_t,
+                     seamwhisk_planned *);
+
+static void plan_by(planner *call)
 {
     struct table t = table();
     struct numbers offsets = lent();
     union answer answer = fresh;
-    CALL(first_fit)(t.period, t.size, t.delays.at, t.delays.length, offsets.at, offsets.length,
-                    &answer.planned);
+    call(t.period, t.size, t.delays.at, t.delays.length, offsets.at, offsets.length,
+         &answer.planned);
     print_answer(&answer, 2);
     print_lent(&offsets);
 }
 
+static void first_fit(void)
+{
+    plan_by(CALL(first_fit));
+}
+
 static void meta_offset(void)
 {
-    struct table t = table();
-    struct numbers offsets = lent();
-    union answer answer = fresh;
-    CALL(meta_offset)(t.period, t.size, t.delays.at, t.delays.length, offsets.at, offsets.length,
-                      &answer.planned);
-    print_answer(&answer, 2);
-    print_lent(&offsets);
+    plan_by(CALL(meta_offset));
+}
+
+static void one_slot(void)
+{
+    plan_by(CALL(one_slot));
 }
 
 static void exact(void)
@@ -344,7 +352,8 @@ int main(void)
 {
     static void (*const kinds[])(void) = {check,      first_fit,  meta_offset, exact,
                                           read_table, write_plan, read_plan,   report,
-                                          ceiling,    check_records, none,     plan_texts};
+                                          ceiling,    check_records, none,     plan_texts,
+                                          one_slot};
     static char line[LINE_ROOM];
     for (unsigned long count = 1; fgets(line, sizeof line, stdin) != NULL; count++) {
         char *end = line;
@@ -353,7 +362,7 @@ int main(void)
         wrong = *end == '\0';
         *end = '\0';
         rest = line;
-        uint64_t kind = number(12);
+        uint64_t kind = number(13);
         if (wrong || kind == 0) {
             fprintf(stderr, "line %lu is not a case\n", count);
             return 1;

@@ -6,7 +6,7 @@
 
 #include "seamwhisk.h"
 
-#define LAST SEAMWHISK_TEXTS
+#define LAST SEAMWHISK_NOT_ONE_SLOT
 
 /* The worked text, twice, with room for so many answers; the byte 9 stands behind what is written. */
 static int joined(size_t room, uint64_t number, uint64_t texts)

@@ -1,6 +1,7 @@
 -- Laws that are not about links.
 pub mod Bools
 pub mod Minimum
+pub mod Hunting
 pub mod Counting
 pub mod Sharing
 pub mod Series

@@ -50,6 +50,11 @@ pub free-cong : (p l : ℕ) (ds os ps : List ℕ) (n d a : ℕ) → ((i : ℕ) �
 unfolding free hits either start
 free-cong p l ds os ps n d a h = ap (λ (x : ℕ). not (ltb x n)) (least-cong _ _ n (λ i q. rw (h i q)))
 
+pub free-table : (p l : ℕ) (ds es os : List ℕ) (n d a : ℕ) → ((i : ℕ) → i < n → getD ds i 0 ≡ getD es i 0)
+    → free p l ds os n d a ≡ free p l es os n d a
+unfolding free hits either start
+free-table p l ds es os n d a h = ap (λ (x : ℕ). not (ltb x n)) (least-cong _ _ n (λ i q. rw (h i q)))
+
 -- messages that are clear of each other at a distance are so at a shorter one
 pub narrower : (p l t : ℕ) (ds os : List ℕ) → t ≤ l → Clear p l ds os → Clear p t ds os
 narrower p l t ds os h w =

@@ -106,17 +106,22 @@ module _ (p l : ℕ) (ds os : List ℕ) (j : ℕ) (xs ys : List ℕ) (s : Starts
   told d a b m h e f =
       f ∙ rw (e, length-take-le j xs (s .xs-length)) (first-hit-cong _ _ j (near-hits d a h))
 
--- a row that meets nobody is free
-pub nobody-free : (p l : ℕ) (ds os : List ℕ) (n d a : ℕ) → isNobody (metAt p l ds os n d a) ≡ free p l ds os n d a
-unfolding metAt free firstHit
-nobody-free p l ds os n d a = go (some (either (hits p l ds os d a)) n)
+-- nobody is named exactly where nobody is hit
+pub nobody-none : (h : Crossing → ℕ → Bool) (n : ℕ) → isNobody (firstHit h n) ≡ not (some (either h) n)
+unfolding firstHit
+nobody-none h n = go (some (either h) n)
   where
     at : ℕ
-    at = least (either (hits p l ds os d a)) n
+    at = least (either h) n
 
-    go : (b : Bool) → isNobody (cond b (Row at (cond (hits p l ds os d a one at) 1 2)) Nobody) ≡ not b
+    go : (b : Bool) → isNobody (cond b (Row at (cond (h one at) 1 2)) Nobody) ≡ not b
     go true = refl
     go false = refl
+
+-- a row that meets nobody is free
+pub nobody-free : (p l : ℕ) (ds os : List ℕ) (n d a : ℕ) → isNobody (metAt p l ds os n d a) ≡ free p l ds os n d a
+unfolding metAt free
+nobody-free p l ds os n d a = nobody-none (hits p l ds os d a) n
 
 -- row i is the least of n that is hit, and c the first crossing in which it is
 pub record FirstHit (h : Crossing → ℕ → Bool) (n i : ℕ) (c : Crossing) : Type 0 where

@@ -1,5 +1,6 @@
 -- Laws that belong to no one function.
 pub mod Candidates
+pub mod Standing
 pub mod Placing
 pub mod Entries
 pub mod Sound

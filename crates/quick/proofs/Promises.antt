@@ -27,14 +27,14 @@ use Rattle.quick.specs.declared.Planned.{Planned}
 use Rattle.quick.specs.declared.Planned.the-variants.{Plan, Refused}
 use Rattle.quick.proofs.Sound.{Says, all, some-row, says, all-is, stuck-is}
 
-abbrev unsaidAs : Verdict → Said → Planned
+abbrev pub unsaidAs : Verdict → Said → Planned
 unsaidAs plan s = Plan
 unsaidAs refusal s = Refused (s .number) (s .place)
 
-abbrev unsaid : Said → Planned
+abbrev pub unsaid : Said → Planned
 unsaid s = unsaidAs (s .verdict) s
 
-again : (r : Planned) → unsaid (said r) ≡ r
+pub again : (r : Planned) → unsaid (said r) ≡ r
 unfolding said
 again Plan = refl
 again (Refused n p) = refl

@@ -5,10 +5,11 @@ use link::Met;
 use link::limits::MAX_ROWS;
 use link::limits::NO_OFFSET;
 ghost use mathlib.Core.Path.{_≡_};
-ghost use Prim.Native.Nat.{_≤_};
-ghost use lib.ListN.{length};
+ghost use Prim.Native.Nat.{_≤_, _<_};
+ghost use lib.ListN.{length, set};
 ghost use Rattle.link.specs.Limits.{maxRows};
-ghost use Rattle.ground.specs.Least.{least};
+ghost use Rattle.link.specs.Rows.{second};
+ghost use Rattle.ground.specs.Least.{leastFrom};
 ghost use Rattle.ground.specs.Protocol.{gives};
 ghost use Rattle.quick.specs.Plan.{allPlaced};
 ghost use Rattle.quick.specs.Answer.{said, outcome, firstFit, metaOffset};
@@ -68,40 +69,55 @@ fn plan(
     let mut j: usize = 0;
     while j < delays.len() {
         let d = delays[j];
-        let c = first_free(period, span, d, &firsts[..j], &seconds[..j], step, count);
+        let c = first_free(period, span, d, &firsts[..j], &seconds[..j], step, 0, count);
         if c >= count {
             return Planned::Refused {
                 number: NO_OFFSET,
                 place: j,
             };
         }
-        let a = c * step;
-        let b = link::second_start(period, d, a);
-        firsts[j] = a;
-        seconds[j] = b;
+        put(period, d, c * step, j, &mut firsts, &mut seconds);
         j += 1;
     }
     ground::copy_out(&firsts[..j], offsets);
     Planned::Plan
 }
 
-// The least candidate at which a row with this delay meets none of the rows so far, or the count.
-fn first_free(
+// A row with this delay comes to this offset.
+pub fn put(
+    period: u32,
+    delay: u32,
+    offset: u32,
+    row: usize,
+    firsts: &mut [u32],
+    seconds: &mut [u32],
+)
+    requires { ⌜ (0 < period) × (row < length (now firsts)) × (row < length (now seconds)) ⌝ }
+    ensures { λ _. ⌜ (now (firsts .exit) ≡ set (now (firsts .entry)) row offset)
+        × (now (seconds .exit) ≡ set (now (seconds .entry)) row (second period delay offset)) ⌝ }
+{
+    firsts[row] = offset;
+    seconds[row] = link::second_start(period, delay, offset);
+}
+
+// The least candidate, of those from `from` on, at which a row with this delay meets none of the rows so far, or the count.
+pub fn first_free(
     period: u32,
     span: u32,
     delay: u32,
     firsts: &[u32],
     seconds: &[u32],
     step: u32,
+    from: u32,
     count: u32,
 ) -> u32
     requires { ⌜ Ways period span step count ⌝ }
-    requires { ⌜ length (now firsts) ≡ length (now seconds) ⌝ }
-    ensures { λ r. ⌜ r ≡ least (openTo period span delay (now (firsts .entry)) (now (seconds .entry)) step) count ⌝ }
+    requires { ⌜ (from ≤ count) × (length (now firsts) ≡ length (now seconds)) ⌝ }
+    ensures { λ r. ⌜ r ≡ leastFrom (openTo period span delay (now (firsts .entry)) (now (seconds .entry)) step) from count ⌝ }
 {
-    let mut c = 0;
-    let mut a = 0;
-    let mut b = link::second_start(period, delay, 0);
+    let mut c = from;
+    let mut a = from * step;
+    let mut b = link::second_start(period, delay, a);
     while c < count {
         match link::first_met(period, span, firsts, seconds, a, b) {
             Met::Nobody => {

@@ -86,7 +86,7 @@ fn case(line: &[u8]) {
     let k = kind.value;
     match k {
         1 | 8 => table_and_offsets(line, at, k),
-        2 | 3 => table_and_room(line, at, k),
+        2 | 3 | 13 => table_and_room(line, at, k),
         4 => table_and_budget(line, at),
         5 => text_and_room(line, at),
         6 => plan_and_room(line, at),
@@ -142,10 +142,10 @@ fn table_and_room(line: &[u8], at: usize, kind: u64) {
     let m = offsets.count;
     let p = cases::word(period);
     let t = cases::word(size);
-    if kind == 2 {
-        first_fit(p, t, &ds[..n], &mut os[..m]);
-    } else {
-        meta_offset(p, t, &ds[..n], &mut os[..m]);
+    match kind {
+        2 => first_fit(p, t, &ds[..n], &mut os[..m]),
+        3 => meta_offset(p, t, &ds[..n], &mut os[..m]),
+        _ => one_slot(p, t, &ds[..n], &mut os[..m]),
     }
 }
 
@@ -159,6 +159,13 @@ fn first_fit(period: u32, size: u32, delays: &[u32], offsets: &mut [u32]) {
 fn meta_offset(period: u32, size: u32, delays: &[u32], offsets: &mut [u32]) {
     let mut answer = [0u64; 2];
     seamwhisk::seamwhisk_meta_offset(period, size, delays, offsets, &mut answer);
+    show::two(&answer);
+    show::list(offsets);
+}
+
+fn one_slot(period: u32, size: u32, delays: &[u32], offsets: &mut [u32]) {
+    let mut answer = [0u64; 2];
+    seamwhisk::seamwhisk_one_slot(period, size, delays, offsets, &mut answer);
     show::two(&answer);
     show::list(offsets);
 }

@@ -16,7 +16,8 @@ use text::Read;
 ghost use mathlib.Core.Path.{_≡_};
 ghost use Rattle.ground.specs.Protocol.{gives};
 ghost use Rattle.checker.specs.Answer.{said, answer as Answer·checked};
-ghost use Rattle.quick.specs.Answer.{firstFit, metaOffset};
+ghost use Rattle.quick.specs.Answer.{said as Said·planned, firstFit, metaOffset};
+ghost use Rattle.oneslot.specs.Answer.{oneSlot};
 ghost use Rattle.joined.specs.Answer.{lists as Lists·texts, planning};
 ghost use Rattle.planfile.specs.Answer.{lists, readGives, writeGives};
 ghost use Rattle.records.specs.Columns.{delaysOf, offsetsOf};
@@ -76,6 +77,16 @@ pub extern "C" fn seamwhisk_check_records(
     checked(answer, r)
 }
 
+// The answer of a planner that counts no tests, as its numbers.
+fn planned(answer: &mut [u64; 2], r: Planned)
+    ensures { λ _. ⌜ now (answer .exit) ≡ plannedAs (Said·planned r) ⌝ }
+{
+    match r {
+        Planned::Plan => fill::two(answer, 0, 0),
+        Planned::Refused { number, place } => fill::two(answer, number as u64, place as u64),
+    }
+}
+
 #[no_mangle]
 pub extern "C" fn seamwhisk_first_fit(
     period: u32,
@@ -87,10 +98,10 @@ pub extern "C" fn seamwhisk_first_fit(
     ensures { λ _. ⌜ gives (now (answer .exit)) (now (offsets .exit))
         ≡ asNumbers plannedAs (firstFit (linkOf period size) (now (delays .entry)) (now (offsets .entry))) ⌝ }
 {
-    match quick::first_fit(Link { period, size }, delays, offsets) {
-        Planned::Plan => fill::two(answer, 0, 0),
-        Planned::Refused { number, place } => fill::two(answer, number as u64, place as u64),
-    }
+    planned(
+        answer,
+        quick::first_fit(Link { period, size }, delays, offsets),
+    )
 }
 
 #[no_mangle]
@@ -104,10 +115,27 @@ pub extern "C" fn seamwhisk_meta_offset(
     ensures { λ _. ⌜ gives (now (answer .exit)) (now (offsets .exit))
         ≡ asNumbers plannedAs (metaOffset (linkOf period size) (now (delays .entry)) (now (offsets .entry))) ⌝ }
 {
-    match quick::meta_offset(Link { period, size }, delays, offsets) {
-        Planned::Plan => fill::two(answer, 0, 0),
-        Planned::Refused { number, place } => fill::two(answer, number as u64, place as u64),
-    }
+    planned(
+        answer,
+        quick::meta_offset(Link { period, size }, delays, offsets),
+    )
+}
+
+#[no_mangle]
+pub extern "C" fn seamwhisk_one_slot(
+    period: u32,
+    size: u32,
+    delays: &[u32],
+    offsets: &mut [u32],
+    answer: &mut [u64; 2],
+)
+    ensures { λ _. ⌜ gives (now (answer .exit)) (now (offsets .exit))
+        ≡ asNumbers plannedAs (oneSlot (linkOf period size) (now (delays .entry)) (now (offsets .entry))) ⌝ }
+{
+    planned(
+        answer,
+        oneslot::one_slot(Link { period, size }, delays, offsets),
+    )
 }
 
 #[no_mangle]

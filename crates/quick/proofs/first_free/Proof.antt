@@ -1,12 +1,11 @@
--- Invariant: a and b are the starts at the candidate c, and no candidate before c is open.
-use mathlib.Core.Path.{_≡_, sym, ap, _∙_}
+-- Invariant: a and b are the starts at the candidate c, and no candidate from `from` on and before c is open.
+use mathlib.Core.Path.{_≡_, refl, sym, ap, _∙_}
 use mathlib.Core.Bool.{false}
 use Prim.Native.Nat.{ℕ, _-_, _*_, _≤_, _<_}
 use native.Mathlib.Omega.{arith}
-use native.Mathlib.Nat.{zero-mul}
-use borrow.Author.Count.{below-more, below-none}
+use native.Mathlib.Nat.{mul-le-mul-right}
 use Rattle.link.specs.Rows.{second, isNobody}
-use Rattle.ground.proofs.Minimum.{least-at}
+use Rattle.ground.proofs.Hunting.{from-at, between}
 use Rattle.link.proofs.Meeting.{second-low}
 use Rattle.quick.specs.Ways.{openTo}
 use Rattle.quick.proofs.Candidates.{next-low, next-is, next-second, opens}
@@ -15,17 +14,23 @@ use Rattle.quick.proofs.first_free.Statement.{statement}
 use Rattle.quick.proofs.first_free.Tie as tie
 
 abbrev Inv-loop : tie.InvT-loop
-Inv-loop period span delay firsts seconds step count c₀ a₀ b₀ c a b =
-    (c ≤ count) × (a ≡ c * step) × (b ≡ second period delay a) × ((i : ℕ) → i < c → openTo period span delay firsts seconds step i ≡ false)
+Inv-loop period span delay firsts seconds step from count c₀ a₀ b₀ c a b =
+    (from ≤ c) × (c ≤ count) × (a ≡ c * step) × (b ≡ second period delay a)
+    × ((i : ℕ) → from ≤ i → i < c → openTo period span delay firsts seconds step i ≡ false)
 
 abbrev μ-loop : tie.MeasureT-loop
-μ-loop period span delay firsts seconds step count c₀ a₀ b₀ c a b = count - c
+μ-loop period span delay firsts seconds step from count c₀ a₀ b₀ c a b = count - c
+
+mul-a : tie.Need-mul-a Inv-loop μ-loop
+mul-a c =
+    let u = c .before .before in
+    omega (arith, mul-le-mul-right (u .args .step) (u .pre .1 .0), u .pre .0 .low, u .pre .0 .period)
 
 second-start-requires : tie.Need-second-start-requires Inv-loop μ-loop
 second-start-requires c κs = search needs
 
 loop-holds : tie.Need-loop-holds Inv-loop μ-loop
-loop-holds c = (omega arith, sym (zero-mul _), c .second-start .ensures, below-none _)
+loop-holds c = (omega arith, omega arith, refl, c .second-start .ensures, λ i h k. absurd (omega arith))
 
 first-met-requires : tie.Need-first-met-requires Inv-loop μ-loop
 first-met-requires c κs = search needs
@@ -36,9 +41,9 @@ enum-told c = search needs
 returns : tie.Need-returns Inv-loop μ-loop
 returns c =
     let l = c .before .before .before .before .loop in
-    let opened = opens _ _ _ _ _ _ _ _ _ _ (l .inv .1) (l .inv .2) (c .before .before .first-met .ensures) ∙ ap isNobody
+    let opened = opens _ _ _ _ _ _ _ _ _ _ (l .inv .2) (l .inv .3) (c .before .before .first-met .ensures) ∙ ap isNobody
     (c .enum-told .given .1) in
-    sym (least-at _ _ _ (omega arith) (l .inv .3) (λ _. opened))
+    sym (from-at _ _ _ _ (l .inv .0) (omega arith) (l .inv .4) (λ _. opened))
 
 enum-told-2 : tie.Need-enum-told-2 Inv-loop μ-loop
 enum-told-2 c = search needs
@@ -58,7 +63,7 @@ turn-requires c κs =
     let l = c .before .before .before .before .loop in
     let low : u .args .step ≤ u .args .period = omega
     (arith, next-low (l .c) (u .args .count) (u .args .step) (omega arith), u .pre .0 .low) in
-    (rw (l .inv .2) (second-low _ _ _ (u .pre .0 .some-period)), low)
+    (rw (l .inv .3) (second-low _ _ _ (u .pre .0 .some-period)), low)
 
 loop-less : tie.Need-loop-less Inv-loop μ-loop
 loop-less c = search needs
@@ -67,11 +72,14 @@ loop-again : tie.Need-loop-again Inv-loop μ-loop
 loop-again c =
     let l = c .before .before .before .before .before .loop in
     let at-first-met = c .before .before .before .first-met in
-    let shut = opens _ _ _ _ _ _ _ _ _ _ (l .inv .1) (l .inv .2) (at-first-met .ensures) ∙ ap isNobody (c .before .enum-told2 .given .1) in
-    (omega arith, next-is _ _ _ (l .inv .1), c .turn .ensures .0 ∙ next-second _ _ _ _ _ (l .inv .2), below-more _ _ (l .inv .3) shut)
+    let shut = opens _ _ _ _ _ _ _ _ _ _ (l .inv .2) (l .inv .3) (at-first-met .ensures) ∙ ap isNobody (c .before .enum-told2 .given .1) in
+    let turned = c .turn .ensures .0 ∙ next-second _ _ _ _ _ (l .inv .3) in
+    (omega arith, omega arith, next-is _ _ _ (l .inv .2), turned, between _ _ _ (l .inv .4) shut)
 
 returns-2 : tie.Need-returns-2 Inv-loop μ-loop
-returns-2 c = sym (least-at _ _ _ (omega arith) (c .before .loop .inv .3) (λ l. absurd (omega arith)))
+returns-2 c =
+    let l = c .before .loop in
+    sym (from-at _ _ _ _ (l .inv .0) (omega arith) (l .inv .4) (λ l. absurd (omega arith)))
 
 pub first-free-spec : {M : Type 1} → statement M
 first-free-spec =
@@ -79,6 +87,7 @@ first-free-spec =
     (tie.spec
     Inv-loop
     μ-loop
+    mul-a
     second-start-requires
     loop-holds
     first-met-requires

@@ -42,39 +42,36 @@ slice-aggregate-first-free-2 c = sym (length-take-le _ _ (omega arith))
 
 first-free-requires : tie.Need-first-free-requires Inv-loop μ-loop
 first-free-requires c κs =
-    let l = c .before .before .before .before .loop in
-    let at-pre = c .before .before .before .before .before .before .before .pre in
-    (at-pre .1, same-front (l .j) (l .firsts) (l .seconds) (omega arith) (omega arith))
+    let at-loop = c .before .before .before .before in
+    let l = at-loop .loop in
+    (at-loop .before .before .before .pre .1, (omega arith, same-front (l .j) (l .firsts) (l .seconds) (omega arith) (omega arith)))
 
 returns : tie.Need-returns Inv-loop μ-loop
 unfolding said outcome
 returns c =
-    let u = c .before .before .before .before .before .before .before .before .before in
-    let l = c .before .before .before .before .before .before .loop in
+    let at-loop = c .before .before .before .before .before .before in
+    let u = at-loop .before .before .before in
+    let l = at-loop .loop in
     let stuck = blocked _ _ _ _ _ (u .pre .1) (l .j) (omega arith) (l .firsts) (l .seconds) (l .inv .1) _
     (c .before .first-free .ensures) (c .if1 .taken) in
     rw (stuck (length (u .args .delays .now)) (omega arith))
 
-mul-a : tie.Need-mul-a Inv-loop μ-loop
-mul-a c =
+mul-put : tie.Need-mul-put Inv-loop μ-loop
+mul-put c =
     let u = c .before .before .before .before .before .before .before .before .before in
     let low = next-low (c .before .first-free .result) (u .args .count) (u .args .step) (c .if1 .left) in
     omega (arith, low, u .pre .1 .low, u .pre .1 .period)
 
-second-start-requires : tie.Need-second-start-requires Inv-loop μ-loop
-second-start-requires c κs = c .before .before .before .before .before .before .before .before .before .pre .1 .some-period
+slice-aggregate-put : tie.Need-slice-aggregate-put Inv-loop μ-loop
+slice-aggregate-put c = search needs
 
-mul-firsts : tie.Need-mul-firsts Inv-loop μ-loop
-mul-firsts c = search needs
+slice-aggregate-put-2 : tie.Need-slice-aggregate-put-2 Inv-loop μ-loop
+slice-aggregate-put-2 c = search needs
 
-array-write-firsts : tie.Need-array-write-firsts Inv-loop μ-loop
-array-write-firsts c = search needs
-
-mul-seconds : tie.Need-mul-seconds Inv-loop μ-loop
-mul-seconds c = search needs
-
-array-write-seconds : tie.Need-array-write-seconds Inv-loop μ-loop
-array-write-seconds c = search needs
+put-requires : tie.Need-put-requires Inv-loop μ-loop
+put-requires c κs =
+    let at-first = c .before .before .before in
+    (at-first .before .before .before .before .before .before .before .before .pre .1 .some-period, omega arith, omega arith)
 
 add-j : tie.Need-add-j Inv-loop μ-loop
 add-j c = search needs
@@ -84,11 +81,14 @@ loop-less c = search needs
 
 loop-again : tie.Need-loop-again Inv-loop μ-loop
 loop-again c =
-    let u = c .before .before .before .before .before .before .before .before .before .before in
-    let l = c .before .before .before .before .before .before .before .loop in
+    let at-put = c .before .before in
+    let at-first = at-put .before .before .before .before in
+    let at-loop = at-first .before .before .before .before .before in
+    let u = at-loop .before .before .before in
+    let l = at-loop .loop in
     let more = onward _ _ _ _ _ (u .pre .1) (l .j) (omega arith) (l .firsts) (l .seconds) (l .inv .1) _
-    (c .before .before .first-free .ensures) in
-    (omega arith, more _ (c .before .if1 .left) (c .second-start .ensures))
+    (at-first .first-free .ensures) _ (at-put .before .before .before .if1 .left) refl in
+    (omega arith, rw (at-put .put .ensures .0, at-put .put .ensures .1) more)
 
 array-share-prefix-firsts-2 : tie.Need-array-share-prefix-firsts-2 Inv-loop μ-loop
 array-share-prefix-firsts-2 c = search needs
@@ -107,8 +107,9 @@ same-length c = search needs
 returns-2 : tie.Need-returns-2 Inv-loop μ-loop
 unfolding said outcome
 returns-2 c =
-    let u = c .before .before .before .before .before .before .before .before .before in
-    let l = c .before .before .before .before .before .before .loop in
+    let at-loop = c .before .before .before .before .before .before in
+    let u = at-loop .before .before .before in
+    let l = at-loop .loop in
     let all : l .j ≡ length (u .args .delays .now) = omega arith in
     rw (← all, l .inv .1 .done, c .before .before .copy-out .ensures)
 
@@ -127,12 +128,10 @@ plan-spec =
     slice-aggregate-first-free-2
     first-free-requires
     returns
-    mul-a
-    second-start-requires
-    mul-firsts
-    array-write-firsts
-    mul-seconds
-    array-write-seconds
+    mul-put
+    slice-aggregate-put
+    slice-aggregate-put-2
+    put-requires
     add-j
     loop-less
     loop-again

@@ -1,0 +1,39 @@
+-- One earlier row moved to let a new one in: which moves serve, and which of them is taken. The period is p, the least distance of two
+-- starts l. os has the offsets of the rows so far; the new row is the one after them.
+use mathlib.Core.Bool.{Bool, not, cond}
+use mathlib.Core.List.{List, [], _∷_, _++_}
+use Prim.Native.Nat.{ℕ}
+use lib.ListN.{length, getD, set}
+use Rattle.ground.specs.Least.{least, some}
+use Rattle.link.specs.Rows.{free}
+use Rattle.oneslot.specs.declared.Move.{Move}
+use Rattle.oneslot.specs.declared.Move.the-variants.{None, Row}
+
+-- row i goes to x, and the new row gets y: no other row is moved
+abbrev pub moved : List ℕ → ℕ → ℕ → ℕ → List ℕ
+moved os i x y = set os i x ++ (y ∷ [])
+
+-- the rows with the offsets os are clear: none of them meets an earlier one
+unfoldable pub allClear : ℕ → ℕ → List ℕ → List ℕ → Bool
+allClear p l ds os = not (some (λ j. not (free p l ds os j (getD ds j 0) (getD os j 0))) (length os))
+
+-- "so that all rows so far are clear"
+unfoldable pub serves : ℕ → ℕ → List ℕ → List ℕ → ℕ → ℕ → ℕ → Bool
+serves p l ds os i x y = allClear p l ds (moved os i x y)
+
+-- Of the offsets below p for a moved row and for the new one: for some x, some y has q x y.
+module _ (p : ℕ) (q : ℕ → ℕ → Bool) where
+  unfoldable pub opens : ℕ → Bool
+  opens x = some (q x) p
+
+  -- "its least new offset, then the least offset for the new row"
+  unfoldable pub moveOf : ℕ → Move
+  moveOf i = cond (some opens p) (Row i (least opens p) (least (q (least opens p)) p)) None
+
+-- "the least such row, then its least new offset, then the least offset for the new row", of n rows
+module _ (p : ℕ) (q : ℕ → ℕ → ℕ → Bool) where
+  unfoldable pub givesWay : ℕ → Bool
+  givesWay i = some (opens p (q i)) p
+
+  unfoldable pub leastMove : ℕ → Move
+  leastMove n = cond (some givesWay n) (moveOf p (q (least givesWay n)) (least givesWay n)) None
