@@ -7,13 +7,9 @@ use lib.ListN.{length, getD, set, length-set, List·getD-append}
 use lib.Seq.{getD-append-seam, getD-set-same, getD-set-other, set-getD}
 use Rattle.link.proofs.Clearness.{free-cong}
 use Rattle.oneslot.specs.Moves.{moved}
-use Rattle.oneslot.specs.Right.{FreeForNext, NoneFree, Serves, Next, takes, moves}
+use Rattle.oneslot.specs.Right.{FreeForNext, NoneFree, Serves, Next, takes, moves, OthersStay}
 use Rattle.oneslot.proofs.SoFar.{RowFree, so-far-rows}
 use Rattle.oneslot.proofs.Sound.{next-length}
-
--- the rows of os but row i have in ps the offsets that they had
-abbrev pub OthersStay : List ℕ → List ℕ → ℕ → Type 0
-OthersStay os ps i = (j : ℕ) → j < length os → (j ≡ i → ⊥) → getD ps j 0 ≡ getD os j 0
 
 others-of-a-move : (os : List ℕ) (i x y : ℕ) → OthersStay os (moved os i x y) i
 others-of-a-move os i x y j h n =

@@ -21,9 +21,9 @@ use Rattle.quick.specs.declared.Planned.the-variants.{Plan, Refused}
 use Rattle.oneslot.specs.Answer.{sizeFaults, oneSlot}
 use Rattle.oneslot.specs.Moves.{allClear, serves, opens, moveOf, givesWay, leastMove}
 use Rattle.oneslot.specs.Plan.{orMoved, settle, settled}
-use Rattle.oneslot.specs.Right.{NoneFree, Next, GivenPlan, NoMove}
+use Rattle.oneslot.specs.Right.{NoneFree, Next, GivenPlan, NoMove, OthersStay}
 use Rattle.oneslot.proofs.FirstFit.{first-fit-same, is-planned, never-thirteen}
-use Rattle.oneslot.proofs.Moving.{OthersStay, others-stay, all-stay, one-moves}
+use Rattle.oneslot.proofs.Moving.{others-stay, all-stay, one-moves}
 use Rattle.oneslot.proofs.NextRow.{is-next}
 use Rattle.oneslot.proofs.Promises.{no-second, plan-is-right, thirteen-exactly, twenty-five-exactly, refusal-keeps}
 

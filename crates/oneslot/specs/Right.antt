@@ -15,6 +15,10 @@ use Rattle.oneslot.specs.Moves.{moved}
 abbrev pub NotAfter : ℕ → ℕ → ℕ → ℕ → ℕ → ℕ → Type 0
 NotAfter i x y i′ x′ y′ = (i < i′) ⊎ ((i ≡ i′) × ((x < x′) ⊎ ((x ≡ x′) × (y ≤ y′))))
 
+-- "At most one move is made for each new row": the rows of os but row i have in ps the offsets that they had
+abbrev pub OthersStay : List ℕ → List ℕ → ℕ → Type 0
+OthersStay os ps i = (j : ℕ) → j < length os → (j ≡ i → ⊥) → getD ps j 0 ≡ getD os j 0
+
 -- os has the offsets of the rows so far, and the next row is row `length os`
 module _ (p l : ℕ) (ds : List ℕ) where
   abbrev pub FreeForNext : List ℕ → ℕ → Type 0

@@ -1,4 +1,4 @@
--- What a quick planner's answer says of the exact planner's: its plan means that "none" is never said, and its 13 means nothing.
+-- What another planner's answer says of the exact planner's: its plan means that "none" is never said, and its 13 means nothing.
 -- Assumes nothing.
 use mathlib.Core.Path.{_≡_, refl}
 use mathlib.Core.List.{List, [], _∷_}
@@ -19,6 +19,10 @@ use Rattle.quick.proofs.Entries.{each-offset, multiples}
 use Rattle.quick.proofs.LightLoads.{light-has-a-plan}
 use Rattle.quick.proofs.Promises.{plan-is-right, right-clear}
 use Rattle.quick.proofs.Worked.{link, ds₁, old, plan₁, fits, right, multiples as by-multiples}
+use Rattle.oneslot.specs.Answer.{oneSlot}
+use Rattle.oneslot.proofs.Promises.{plan-is-right as one-slot-right}
+use Rattle.oneslot.proofs.Sound.{reached-low}
+use Rattle.oneslot.proofs.Worked.{let-in}
 use Rattle.search.specs.Answer.{Answers, ClearChoice}
 use Rattle.search.specs.declared.Answer.the-variants.{None}
 use Rattle.search.proofs.Promises.{clear-plan-never-none}
@@ -52,6 +56,15 @@ module _ (k : Link) (ds old new : List ℕ) where
       let g = plan-is-right k ds old (spanOf k) (k .period / spanOf k) Plan new e .0 refl in
       never-none k ds (g .table) (spanOf k) (k .period / spanOf k) (multiples k ds (g .table)) (g .offsets) (g .right)
 
+  -- and for the planner of one-slot messages
+  pub one-slot-never-none : gives (said Plan) new ≡ oneSlot k ds old → (budget : ℕ) (list : List ℕ) (t : ℕ) (left : List ℕ)
+      → Answers k ds budget list (None t) left → ⊥
+  one-slot-never-none e =
+      let g = one-slot-right k ds old Plan new e .0 refl in
+      let low = reached-low (k .period) (spanOf k) ds (g .right) in
+      clear-plan-never-none k ds (g .offsets)
+      (record { as-many = g .as-many; inside = λ i h. low i (omega (arith, g .as-many)); clear = g .clear })
+
 -- nor is it ever said of a light load
 pub light-never-none : (k : Link) (ds : List ℕ) → GoodTable k ds → LightLoad k ds
     → (budget : ℕ) (list : List ℕ) (t : ℕ) (left : List ℕ) → Answers k ds budget list (None t) left → ⊥
@@ -60,13 +73,17 @@ light-never-none k ds g h =
     never-none k ds g (spanOf k) (k .period / spanOf k) (multiples k ds g) (w .0) (w .1)
 
 -- used on document 01's tables: "none" is never said of 5, 2, (0 4), where First Fit has a plan, nor of the first table, where
--- Meta-Offset has one; nor of the first table with period 14, which is seven multiples
+-- Meta-Offset has one, nor of 4, 1, (0 2 1 1), where a move makes one; nor of the first table with period 14, which is seven multiples
 module _ (budget : ℕ) (list : List ℕ) (t : ℕ) (left : List ℕ) where
   pub fits-never-none : Answers (link 5 2) (0 ∷ 4 ∷ []) budget list (None t) left → ⊥
   fits-never-none = first-fit-never-none (link 5 2) (0 ∷ 4 ∷ []) old (0 ∷ 3 ∷ 9 ∷ 9 ∷ []) fits budget list t left
 
   pub multiples-never-none : Answers (link 10 2) ds₁ budget list (None t) left → ⊥
   multiples-never-none = meta-offset-never-none (link 10 2) ds₁ old plan₁ by-multiples budget list t left
+
+  pub move-never-none : Answers (link 4 1) (0 ∷ 2 ∷ 1 ∷ 1 ∷ []) budget list (None t) left → ⊥
+  move-never-none =
+      one-slot-never-none (link 4 1) (0 ∷ 2 ∷ 1 ∷ 1 ∷ []) (9 ∷ 9 ∷ 9 ∷ 9 ∷ 9 ∷ []) (2 ∷ 1 ∷ 0 ∷ 3 ∷ 9 ∷ []) let-in budget list t left
 
   pub light-table-never-none : Answers (link 14 2) ds₁ budget list (None t) left → ⊥
   light-table-never-none = light-never-none (link 14 2) ds₁ good (omega arith) budget list t left

@@ -1,5 +1,7 @@
 -- One store in each list.
-use mathlib.Core.Path.{refl}
+use mathlib.Core.Path.{refl, ap}
+use Prim.Native.Nat.{ℕ}
+use lib.ListN.{set}
 use borrow.Author.Needs.{needs}
 use Rattle.quick.proofs.put.Statement.{statement}
 use Rattle.quick.proofs.put.Tie as tie
@@ -26,7 +28,9 @@ same-length-2 : tie.Need-same-length-2
 same-length-2 c = search needs
 
 returns : tie.Need-returns
-returns c = (refl, rw (← (c .second-start .ensures)))
+returns c =
+    let u = c .before .before .before in
+    (refl, ap (λ (b : ℕ). set (u .args .seconds .now) (u .args .row) b) (c .second-start .ensures))
 
 pub put-spec : {M : Type 1} → statement M
 put-spec =
