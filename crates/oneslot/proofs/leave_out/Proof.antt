@@ -1,5 +1,9 @@
 -- The starts are copied, and the last one is put into place i.
-use Rattle.oneslot.specs.Others.{leftOut}
+use mathlib.Core.List.{List}
+use mathlib.Core.Path.{ap}
+use Prim.Native.Nat.{ℕ}
+use lib.ListN.{set}
+use Rattle.oneslot.specs.Others.{lastOf, leftOut}
 use borrow.Author.Needs.{needs}
 use Rattle.oneslot.proofs.leave_out.Statement.{statement}
 use Rattle.oneslot.proofs.leave_out.Tie as tie
@@ -27,7 +31,10 @@ same-length c = search needs
 
 returns : tie.Need-returns
 unfolding leftOut
-returns c = rw (c .before .before .before .copy-out .ensures)
+returns c =
+    let at-copy = c .before .before .before in
+    let u = at-copy .before .before .before .before in
+    ap (λ (zs : List ℕ). set zs (u .args .i) (lastOf (u .args .starts .now))) (at-copy .copy-out .ensures)
 
 pub leave-out-spec : {M : Type 1} → statement M
 leave-out-spec =
