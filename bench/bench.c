@@ -30,6 +30,8 @@ struct side {
                       seamwhisk_planned *);
     void (*meta_offset)(uint32_t, uint32_t, const uint32_t *, size_t, uint32_t *, size_t,
                         seamwhisk_planned *);
+    void (*one_slot)(uint32_t, uint32_t, const uint32_t *, size_t, uint32_t *, size_t,
+                     seamwhisk_planned *);
     void (*exact)(uint32_t, uint32_t, const uint32_t *, size_t, uint64_t, uint32_t *, size_t,
                   seamwhisk_searched *);
     uint64_t (*ceiling)(size_t);
@@ -45,17 +47,38 @@ struct side {
 };
 
 static const struct side baseline = {
-    rules_check,   rules_check_records, rules_first_fit,       rules_meta_offset, rules_exact,
-    rules_ceiling, rules_read_table,    rules_plan_texts_flat, rules_write_plan,  rules_read_plan,
-    rules_report};
+    rules_check,           rules_check_records, rules_first_fit, rules_meta_offset,
+    rules_one_slot,        rules_exact,         rules_ceiling,   rules_read_table,
+    rules_plan_texts_flat, rules_write_plan,    rules_read_plan, rules_report};
 static const struct side seamwhisk = {
-    seamwhisk_check,           seamwhisk_check_records, seamwhisk_first_fit,  seamwhisk_meta_offset,
-    seamwhisk_exact,           seamwhisk_ceiling,       seamwhisk_read_table,
-    seamwhisk_plan_texts_flat, seamwhisk_write_plan,    seamwhisk_read_plan,  seamwhisk_report};
+    seamwhisk_check,           seamwhisk_check_records, seamwhisk_first_fit, seamwhisk_meta_offset,
+    seamwhisk_one_slot,        seamwhisk_exact,         seamwhisk_ceiling,   seamwhisk_read_table,
+    seamwhisk_plan_texts_flat, seamwhisk_write_plan,    seamwhisk_read_plan, seamwhisk_report};
 
 /* What the workloads are run on; made once, the same for both sides. */
 static const uint32_t eight_delays[8] = {7, 16, 16, 16, 16, 16, 16, 16};
 static uint32_t delays[ROWS], plan[ROWS];
+/* Tables that cost the one-slot planner much, found by searching: many rows have no free offset,
+ * and many are tried before one gives way. Each has its period in its name. */
+static const uint32_t tight_64[ROWS] = {
+    0, 57, 53, 39, 45, 4, 52, 36, 41, 37, 27, 60, 38, 39, 49, 51, 47, 44, 41, 47, 41, 36, 31, 31,
+    53, 31, 45, 40, 40, 22, 29, 15, 23, 16, 9, 7, 8, 5, 3, 63, 60, 4, 6, 2, 56, 62, 61, 60, 59, 56,
+    46, 47, 33, 33, 33, 27, 27, 27, 27, 8, 27, 43, 41, 22};
+static const uint32_t tight_65[ROWS] = {
+    0, 58, 44, 32, 38, 60, 58, 36, 62, 61, 56, 57, 40, 39, 45, 30, 22, 38, 41, 30, 40, 40, 30, 26,
+    35, 34, 18, 30, 19, 27, 32, 21, 10, 13, 6, 5, 1, 5, 63, 60, 57, 2, 63, 60, 55, 52, 63, 53, 57,
+    53, 48, 47, 47, 24, 22, 22, 22, 35, 10, 29, 15, 9, 61, 22};
+static const uint32_t tight_66[ROWS] = {
+    0, 48, 9, 18, 46, 55, 64, 43, 14, 17, 55, 5, 56, 4, 49, 41, 51, 53, 63, 53, 63, 57, 63, 42, 42,
+    46, 44, 41, 49, 42, 49, 43, 55, 25, 25, 25, 25, 25, 25, 25, 25, 30, 29, 26, 18, 22, 19, 7, 29,
+    29, 18, 15, 4, 7, 5, 62, 28, 23, 4, 3, 65, 47, 47, 13};
+/* The worst of all that were found. */
+static const uint32_t worst_71[ROWS] = {
+    0, 0, 0, 0, 0, 0, 0, 0, 0, 0, 0, 0, 0, 0, 0, 0, 32, 27, 0, 0, 41, 23, 0, 46, 0, 23, 23, 23, 23,
+    23, 23, 23, 43, 22, 23, 23, 23, 23, 23, 23, 23, 23, 23, 23, 69, 57, 62, 9, 12, 17, 0, 0, 21, 17,
+    26, 16, 0, 23, 0, 70, 0, 0, 23, 0};
+/* Here the last row is the only one without a free offset. */
+static uint32_t stuck_95[ROWS], moved_126[ROWS];
 static seamwhisk_record records[ROWS];
 static uint8_t text[SEAMWHISK_MAX_TEXT], file[SEAMWHISK_MAX_FILE];
 static size_t text_length, file_length;
@@ -104,6 +127,52 @@ static void meta_offset_light(const struct side *side, struct result *r)
 static void meta_offset_full(const struct side *side, struct result *r)
 {
     side->meta_offset(PERIOD, FULL, delays, ROWS, r->offsets, ROWS, &r->answer.planned);
+}
+
+static void one_slot(const struct side *side, struct result *r, uint32_t period,
+                     const uint32_t *table)
+{
+    side->one_slot(period, 1, table, ROWS, r->offsets, ROWS, &r->answer.planned);
+}
+
+static void one_slot_64(const struct side *side, struct result *r)
+{
+    one_slot(side, r, 64, tight_64);
+}
+
+static void one_slot_65(const struct side *side, struct result *r)
+{
+    one_slot(side, r, 65, tight_65);
+}
+
+static void one_slot_66(const struct side *side, struct result *r)
+{
+    one_slot(side, r, 66, tight_66);
+}
+
+static void one_slot_71(const struct side *side, struct result *r)
+{
+    one_slot(side, r, 71, worst_71);
+}
+
+static void one_slot_95(const struct side *side, struct result *r)
+{
+    one_slot(side, r, 95, stuck_95);
+}
+
+static void one_slot_126(const struct side *side, struct result *r)
+{
+    one_slot(side, r, 126, moved_126);
+}
+
+static void one_slot_127(const struct side *side, struct result *r)
+{
+    one_slot(side, r, 127, delays);
+}
+
+static void one_slot_long(const struct side *side, struct result *r)
+{
+    one_slot(side, r, PERIOD, delays);
 }
 
 static void check(const struct side *side, struct result *r)
@@ -164,6 +233,14 @@ static const struct workload workloads[] = {
     {"First Fit, size 15,000: 13 at row 41", 2, {13, 41}, first_fit_full},
     {"Meta-Offset, size 500: a plan", 2, {0, 0}, meta_offset_light},
     {"Meta-Offset, size 15,000: 13 at row 42", 2, {13, 42}, meta_offset_full},
+    {"one-slot, hard table of period 64: 13 at row 63", 2, {13, 63}, one_slot_64},
+    {"one-slot, hard table of period 65: a plan", 2, {0, 0}, one_slot_65},
+    {"one-slot, hard table of period 66: a plan", 2, {0, 0}, one_slot_66},
+    {"one-slot, worst table found, period 71: 13 at row 63", 2, {13, 63}, one_slot_71},
+    {"one-slot, period 95, no move for row 63: 13", 2, {13, 63}, one_slot_95},
+    {"one-slot, period 126, a move for row 63: a plan", 2, {0, 0}, one_slot_126},
+    {"one-slot, period 127: a plan, no move", 2, {0, 0}, one_slot_127},
+    {"one-slot, period 1,000,000: a plan, no move", 2, {0, 0}, one_slot_long},
     {"checker, size 500: clear", 5, {0, 0, 0, 0, 0}, check},
     {"checker over records, size 500: clear", 5, {0, 0, 0, 0, 0}, check_records},
     {"stretch report, size 500", 3, {0, 0, PERIOD - ROWS * LIGHT}, report},
@@ -185,6 +262,17 @@ static size_t make_text(uint8_t *into, size_t room, size_t rows)
     return (size_t)length;
 }
 
+/* Each row but the last has a free offset. The last has none: at the period 95 no move helps
+ * either, at 126 one does. */
+static void make_one_slot_tables(void)
+{
+    for (size_t row = 31; row < ROWS; row++)
+        stuck_95[row] = 31;
+    stuck_95[32] = 61;
+    stuck_95[63] = 30;
+    moved_126[63] = 63;
+}
+
 /* Pseudo-random delays from a fixed seed; the plan, the texts and the file that go with them. */
 static bool make_inputs(void)
 {
@@ -193,6 +281,7 @@ static bool make_inputs(void)
         state = state * 1664525u + 1013904223u;
         delays[row] = state >> 8;
     }
+    make_one_slot_tables();
     text_length = make_text(text, sizeof text, ROWS);
     for (size_t t = 0; t < TEXTS; t++) {
         long_length += make_text(long_texts + long_length, sizeof long_texts - long_length, ROWS);

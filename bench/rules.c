@@ -205,6 +205,124 @@ void rules_meta_offset(uint32_t period, uint32_t size, const uint32_t *delays, s
     *answer = (seamwhisk_planned){fault.number, fault.place};
 }
 
+/* ---- one-slot planner ---- */
+
+/* A row that gives way, its new offset, and the new row's. */
+struct move {
+    size_t row;
+    uint32_t to, offset;
+};
+
+/* The least free offset from this one on; the period if there is none. */
+static uint32_t next_free(const struct placed *placed, uint32_t delay, uint32_t period,
+                          uint32_t size, uint32_t from)
+{
+    uint32_t first = from, second = second_start(from, delay, period);
+    while (first < period && !is_free(placed, first, second, period, size)) {
+        first++;
+        second = second + 1 < period ? second + 1 : 0;
+    }
+    return first;
+}
+
+/* The least offset that is free and leaves a row alone that starts at first and second. */
+static uint32_t next_beside(const struct placed *placed, uint32_t delay, uint32_t period,
+                            uint32_t size, uint32_t first, uint32_t second)
+{
+    uint32_t offset = next_free(placed, delay, period, size, 0);
+    while (offset < period &&
+           (meet(first, offset, period, size) ||
+            meet(second, second_start(offset, delay, period), period, size)))
+        offset = next_free(placed, delay, period, size, offset + 1);
+    return offset;
+}
+
+/* Offsets for a row that is moved and for a new one, beside the others and each other. */
+static bool make_room(const struct placed *others, uint32_t moving, uint32_t delay,
+                      uint32_t period, uint32_t size, struct move *move)
+{
+    /* with no room for the new row even so, no offset of the moved one helps */
+    if (next_free(others, delay, period, size, 0) >= period)
+        return false;
+    move->to = next_free(others, moving, period, size, 0);
+    while (move->to < period) {
+        uint32_t second = second_start(move->to, moving, period);
+        move->offset = next_beside(others, delay, period, size, move->to, second);
+        if (move->offset < period)
+            return true;
+        move->to = next_free(others, moving, period, size, move->to + 1);
+    }
+    return false;
+}
+
+/* The rows but one: the last stands in its place. */
+static void leave_out(const struct placed *placed, size_t row, struct placed *others)
+{
+    size_t last = placed->rows - 1;
+    memcpy(others->firsts, placed->firsts, last * sizeof *others->firsts);
+    memcpy(others->seconds, placed->seconds, last * sizeof *others->seconds);
+    others->firsts[row] = placed->firsts[last];
+    others->seconds[row] = placed->seconds[last];
+    others->rows = last;
+}
+
+static bool find_move(const struct placed *placed, const uint32_t *delays, uint32_t delay,
+                      uint32_t period, uint32_t size, struct move *move)
+{
+    struct placed others;
+    for (move->row = 0; move->row < placed->rows; move->row++) {
+        leave_out(placed, move->row, &others);
+        if (make_room(&others, delays[move->row], delay, period, size, move))
+            return true;
+    }
+    return false;
+}
+
+static void put_at(struct placed *placed, size_t row, uint32_t delay, uint32_t period,
+                   uint32_t offset)
+{
+    placed->firsts[row] = offset;
+    placed->seconds[row] = second_start(offset, delay, period);
+}
+
+/* Puts the next row in by a move. */
+static bool move_one(struct placed *placed, const uint32_t *delays, uint32_t period, uint32_t size)
+{
+    struct move move;
+    uint32_t delay = delays[placed->rows];
+    if (!find_move(placed, delays, delay, period, size, &move))
+        return false;
+    put_at(placed, move.row, delays[move.row], period, move.to);
+    put_at(placed, placed->rows, delay, period, move.offset);
+    placed->rows++;
+    return true;
+}
+
+static struct fault settle_all(uint32_t period, uint32_t size, const uint32_t *delays, size_t rows,
+                               uint32_t *offsets, size_t room)
+{
+    struct fault fault = judge_room(period, size, delays, rows, room);
+    if (fault.number != 0)
+        return fault;
+    if (size != 1)
+        return refuse(SEAMWHISK_NOT_ONE_SLOT, 0);
+    struct placed placed;
+    placed.rows = 0;
+    for (size_t row = 0; row < rows; row++)
+        if (!place_next(&placed, delays[row], period, size, 1, period) &&
+            !move_one(&placed, delays, period, size))
+            return refuse(SEAMWHISK_NO_OFFSET, row);
+    memcpy(offsets, placed.firsts, rows * sizeof *offsets);
+    return no_fault;
+}
+
+void rules_one_slot(uint32_t period, uint32_t size, const uint32_t *delays, size_t rows,
+                    uint32_t *offsets, size_t room, seamwhisk_planned *answer)
+{
+    struct fault fault = settle_all(period, size, delays, rows, offsets, room);
+    *answer = (seamwhisk_planned){fault.number, fault.place};
+}
+
 /* ---- exact planner ---- */
 
 enum outcome { NO_BUILD, BUILD, SPENT };

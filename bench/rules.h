@@ -17,6 +17,9 @@ void rules_first_fit(uint32_t period, uint32_t size, const uint32_t *delays, siz
 void rules_meta_offset(uint32_t period, uint32_t size, const uint32_t *delays, size_t rows,
                        uint32_t *offsets, size_t room, seamwhisk_planned *answer);
 
+void rules_one_slot(uint32_t period, uint32_t size, const uint32_t *delays, size_t rows,
+                    uint32_t *offsets, size_t room, seamwhisk_planned *answer);
+
 void rules_exact(uint32_t period, uint32_t size, const uint32_t *delays, size_t rows,
                  uint64_t budget, uint32_t *offsets, size_t room, seamwhisk_searched *answer);
 

@@ -232,7 +232,9 @@ void seamwhisk_meta_offset(uint32_t period, uint32_t size, const uint32_t *delay
  * the first row that has no free offset and that no such move lets in. 13 says that this planner
  * gave up, not that the table has no plan. It never comes where P is at least 2*rows-1.
  * Otherwise number is 0 and offsets[0] to offsets[rows-1] are the plan; where First Fit has a plan,
- * it is the same one. */
+ * it is the same one.
+ * Its time does not grow with the period: if there are 2*rows-1 offsets, one of the first so many
+ * is free. The worst table that was found takes some milliseconds (docs/BENCHMARKS.md). */
 void seamwhisk_one_slot(uint32_t period, uint32_t size, const uint32_t *delays, size_t rows,
                         uint32_t *offsets, size_t room, seamwhisk_planned *answer);
 

@@ -5,7 +5,7 @@ pub mod limits;
 ghost use mathlib.Core.Path.{_≡_};
 ghost use Prim.Native.Nat.{_<_, _≤_};
 ghost use lib.ListN.{length};
-ghost use Rattle.link.specs.Slots.{apartb};
+ghost use Rattle.link.specs.Slots.{apartb, gap};
 ghost use Rattle.link.specs.Rows.{spanOf, second, firstNear};
 
 pub struct Link {
@@ -47,24 +47,26 @@ pub fn turn(period: u32, at: u32, by: u32) -> u32
     at - rest
 }
 
+// How far two starts are from each other, not round the period. On its own so that it compiles to no branch.
+fn distance(a: u32, b: u32) -> u32
+    ensures { λ r. ⌜ r ≡ gap a b ⌝ }
+{
+    if a < b {
+        return b - a;
+    }
+    a - b
+}
+
 // Two starts are at least the span from each other, both ways round the period.
 pub fn apart(period: u32, span: u32, a: u32, b: u32) -> bool
     ensures { λ r. ⌜ r ≡ apartb period span a b ⌝ }
 {
-    let p = period as u64;
+    let d = distance(a, b) as u64;
     let l = span as u64;
-    if a < b {
-        let d = (b - a) as u64;
-        if d < l {
-            return false;
-        }
-        return d + l <= p;
-    }
-    let d = (a - b) as u64;
     if d < l {
         return false;
     }
-    d + l <= p
+    d + l <= period as u64
 }
 
 // The least row, of those with these starts, that a row with the starts a and b meets, and the crossing (1 if both).
