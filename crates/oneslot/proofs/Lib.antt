@@ -7,7 +7,7 @@ pub mod Sound
 pub mod Serving
 pub mod Fitting
 pub mod Settling
-pub mod Tests
+pub mod MakingRoom
 pub mod Finding
 pub mod Promises
 pub mod Moving

@@ -21,19 +21,22 @@ allClear p l ds os = not (some (λ j. not (free p l ds os j (getD ds j 0) (getD 
 unfoldable pub serves : ℕ → ℕ → List ℕ → List ℕ → ℕ → ℕ → ℕ → Bool
 serves p l ds os i x y = allClear p l ds (moved os i x y)
 
--- Of the offsets below p for a moved row and for the new one: for some x, some y has q x y.
+-- One row may go to x and let the new row in at y where q x y says so; both offsets are below p.
 module _ (p : ℕ) (q : ℕ → ℕ → Bool) where
+  -- with the row at x some offset is left for the new one
   unfoldable pub opens : ℕ → Bool
   opens x = some (q x) p
 
-  -- "its least new offset, then the least offset for the new row"
+  -- "its least new offset, then the least offset for the new row": the row is row i
   unfoldable pub moveOf : ℕ → Move
   moveOf i = cond (some opens p) (Row i (least opens p) (least (q (least opens p)) p)) None
 
--- "the least such row, then its least new offset, then the least offset for the new row", of n rows
+-- Each row i has such a test, q i.
 module _ (p : ℕ) (q : ℕ → ℕ → ℕ → Bool) where
+  -- some pair of offsets serves for row i
   unfoldable pub givesWay : ℕ → Bool
   givesWay i = some (opens p (q i)) p
 
+  -- "the least such row, then its least new offset, then the least offset for the new row", of n rows
   unfoldable pub leastMove : ℕ → Move
   leastMove n = cond (some givesWay n) (moveOf p (q (least givesWay n)) (least givesWay n)) None

@@ -6,7 +6,7 @@ use Rattle.quick.specs.Ways.{openTo}
 use Rattle.ground.proofs.Hunting.{Walked, walk-begins, walk-goes-on, walk-finds, from-low}
 use Rattle.ground.proofs.Minimum.{least-at}
 use Rattle.oneslot.specs.Others.{openBeside}
-use Rattle.oneslot.proofs.Tests.{shut-beside, open-beside}
+use Rattle.oneslot.proofs.MakingRoom.{shut-beside, open-beside}
 use Rattle.oneslot.proofs.beside.Statement.{statement}
 use Rattle.oneslot.proofs.beside.Tie as tie
 

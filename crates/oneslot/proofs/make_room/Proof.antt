@@ -3,7 +3,7 @@ use Prim.Native.Nat.{_+_, _-_}
 use native.Mathlib.Omega.{arith}
 use Rattle.ground.proofs.Hunting.{Walked, walk-begins, walk-goes-on, from-low}
 use Rattle.quick.specs.Ways.{openTo}
-use Rattle.oneslot.proofs.Tests.{roomAt, shut-room, no-room, none-left, not-here, room-here}
+use Rattle.oneslot.proofs.MakingRoom.{roomAt, shut-room, no-room, none-left, not-here, room-here}
 use Rattle.oneslot.proofs.make_room.Statement.{statement}
 use Rattle.oneslot.proofs.make_room.Tie as tie
 

@@ -1,4 +1,4 @@
--- The code's tests over lists of starts, one made of the other, and what a walk over open offsets finds by them. Assumes nothing.
+-- Room for a row that is moved and for a new one beside rows with given starts: what a walk over the open offsets finds. Assumes nothing.
 use mathlib.Core.Path.{_≡_, sym, _∙_}
 use mathlib.Core.Bool.{Bool, true, false, and-false}
 use mathlib.Core.List.{List}
