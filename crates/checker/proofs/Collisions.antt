@@ -8,7 +8,7 @@ use native.Mathlib.Omega.{arith}
 use lib.ListN.{length, getD}
 use borrow.Author.Tests.{ltb-true}
 use Rattle.ground.specs.Least.{least, some}
-use Rattle.link.specs.Rows.{Crossing, numbered, start, hits, free, metAt, isNobody}
+use Rattle.link.specs.Rows.{Crossing, numbered, start, hits, free, metAt, isNobody, blocked}
 use Rattle.ground.specs.declared.Judged.{Judged}
 use Rattle.ground.specs.declared.Judged.the-variants.{Fine, Fault}
 use Rattle.link.specs.declared.Met.{Met}
@@ -19,7 +19,7 @@ use Rattle.ground.proofs.Bools.{clash, never, lt-or-ge}
 use Rattle.link.proofs.Circle.{meets-true, meets-slot}
 use Rattle.link.proofs.Meeting.{FirstHit, hit-is, hit-either}
 use Rattle.ground.proofs.Minimum.{least-is, none-has, some-at}
-use Rattle.checker.specs.Answer.{Said, Verdict, clearly, colliding, refusing, metBy, blocked, nameAs, named}
+use Rattle.checker.specs.Answer.{Said, Verdict, clearly, colliding, refusing, metBy, nameAs, named}
 use Rattle.checker.specs.Order.{Collides, NotAfter, FirstCollision}
 use Rattle.checker.proofs.Naming.{met-blocked}
 

@@ -16,12 +16,12 @@ use Rattle.ground.proofs.Minimum.{least-at, least-cong, none-has, some-none}
 use Rattle.link.specs.Limits.{notClear}
 use Rattle.link.specs.Range.{GoodPlan}
 use Rattle.link.specs.Refusal.{planFaults}
-use Rattle.link.specs.Rows.{spanOf, movedOn, Clear}
+use Rattle.link.specs.Rows.{spanOf, movedOn, Clear, blocked}
 use Rattle.link.specs.declared.Link.{Link}
 use Rattle.link.proofs.Accepted.{good-plan, fine-plan}
 use Rattle.link.proofs.Clearness.{clear-rows, rows-clear}
 use Rattle.link.proofs.Turning.{good-moved, free-moved}
-use Rattle.checker.specs.Answer.{Said, said, blocked, answer}
+use Rattle.checker.specs.Answer.{Said, said, answer}
 use Rattle.checker.specs.Judging.{clearFaults, judgedAs}
 use Rattle.checker.specs.Order.{FirstCollision}
 use Rattle.checker.specs.declared.Checked.{Checked}

@@ -8,14 +8,14 @@ use lib.ListN.{length, getD, take, set, length-set}
 use borrow.Author.Count.{below-more, below-none}
 use Rattle.ground.specs.Least.{least}
 use Rattle.link.specs.Limits.{maxRows}
-use Rattle.link.specs.Rows.{two, second, start, firstNear, isNobody}
+use Rattle.link.specs.Rows.{two, second, start, firstNear, isNobody, blocked}
 use Rattle.link.specs.Range.{InRange}
 use Rattle.link.specs.declared.Met.{Met}
 use Rattle.link.specs.declared.Met.the-variants.{Nobody, Row}
 use Rattle.ground.proofs.Filling.{stored}
 use Rattle.ground.proofs.Minimum.{least-at, some-at, some-none}
 use Rattle.link.proofs.Meeting.{Starts, told, nobody-free}
-use Rattle.checker.specs.Answer.{clearly, colliding, metBy, blocked, named}
+use Rattle.checker.specs.Answer.{clearly, colliding, metBy, named}
 
 module _ (p l : ℕ) (ds os : List ℕ) where
   pub met-blocked : (j : ℕ) → not (isNobody (metBy p l ds os j)) ≡ blocked p l ds os j

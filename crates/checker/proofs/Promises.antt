@@ -8,14 +8,14 @@ use borrow.Author.Tests.{not-false}
 use Rattle.link.specs.Range.{GoodPlan}
 use Rattle.ground.specs.Judging.{first}
 use Rattle.link.specs.Refusal.{planFaults}
-use Rattle.link.specs.Rows.{spanOf, Clear}
+use Rattle.link.specs.Rows.{spanOf, Clear, blocked}
 use Rattle.link.specs.declared.Link.{Link}
 use Rattle.link.proofs.Accepted.{good-plan, fine-plan}
 use Rattle.link.proofs.Clearness.{clear-in, clear-rows, rows-clear}
 use Rattle.ground.specs.declared.Judged.the-variants.{Fine}
 use Rattle.ground.proofs.Answers as answers
 use Rattle.ground.proofs.Bools.{never}
-use Rattle.checker.specs.Answer.{Said, Verdict, clear, collision, refusal, said, blocked, answer}
+use Rattle.checker.specs.Answer.{Said, Verdict, clear, collision, refusal, said, answer}
 use Rattle.checker.specs.Judging.{clearFaults}
 use Rattle.checker.specs.Order.{FirstCollision}
 use Rattle.checker.specs.declared.Checked.{Checked}

@@ -7,10 +7,10 @@ use Rattle.ground.specs.declared.Judged.the-variants.{Fine}
 use Rattle.link.specs.Range.{GoodPlan}
 use Rattle.ground.specs.Judging.{first, outside, andThen}
 use Rattle.link.specs.Refusal.{linkFaults, rowFaults, offsetFaults}
-use Rattle.link.specs.Rows.{second, start, hits, either, free, firstHit, metAt, Clear}
+use Rattle.link.specs.Rows.{second, start, hits, either, free, firstHit, metAt, Clear, blocked}
 use Rattle.link.specs.Slots.{uses, meets}
 use Rattle.link.specs.declared.Link.{Link}
-use Rattle.checker.specs.Answer.{said, metBy, blocked, named, answer}
+use Rattle.checker.specs.Answer.{said, metBy, named, answer}
 use Rattle.checker.specs.Order.{FirstCollision}
 use Rattle.checker.specs.Judging.{clearFaults}
 use Rattle.checker.specs.declared.Checked.{Checked}

@@ -4,7 +4,7 @@ use mathlib.Core.List.{List}
 use Prim.Native.Nat.{ℕ}
 use lib.ListN.{length, getD}
 use Rattle.ground.specs.Least.{least, some}
-use Rattle.link.specs.Rows.{spanOf, metAt, free}
+use Rattle.link.specs.Rows.{spanOf, metAt, free, blocked}
 use Rattle.ground.specs.Judging.{first}
 use Rattle.ground.specs.Protocol.{unless}
 use Rattle.link.specs.Refusal.{planFaults}
@@ -45,10 +45,6 @@ said (Refused n p) = refusing n p
 -- the least earlier row that row j meets, and the crossing
 unfoldable pub metBy : ℕ → ℕ → List ℕ → List ℕ → ℕ → Met
 metBy p l ds os j = metAt p l ds os j (getD ds j 0) (getD os j 0)
-
--- row j meets an earlier row
-unfoldable pub blocked : ℕ → ℕ → List ℕ → List ℕ → ℕ → Bool
-blocked p l ds os j = not (free p l ds os j (getD ds j 0) (getD os j 0))
 
 -- what row j meets, as an answer
 abbrev pub nameAs : ℕ → Met → Said

@@ -7,9 +7,8 @@ use Rattle.ground.specs.declared.Judged.{Judged}
 use Rattle.ground.specs.declared.Judged.the-variants.{Fine, Fault}
 use Rattle.link.specs.Limits.{notClear}
 use Rattle.link.specs.Refusal.{planFaults}
-use Rattle.link.specs.Rows.{spanOf}
+use Rattle.link.specs.Rows.{spanOf, blocked}
 use Rattle.link.specs.declared.Link.{Link}
-use Rattle.checker.specs.Answer.{blocked}
 use Rattle.checker.specs.declared.Checked.{Checked}
 use Rattle.checker.specs.declared.Checked.the-variants.{Clear, Collision, Refused}
 

@@ -1,5 +1,5 @@
 -- The least number with q from a place on, and a walk over all that have q, one after the other. Assumes nothing.
-use mathlib.Core.Path.{_≡_}
+use mathlib.Core.Path.{_≡_, sym}
 use mathlib.Core.Bool.{Bool, true, false, _&&_}
 use mathlib.Core.Logic.{⊎-elim}
 use Prim.Native.Nat.{ℕ, _+_, _≤_, _<_}
@@ -8,7 +8,7 @@ use lib.Dec.{leb}
 use borrow.Author.Tests.{leb-true, le-leb}
 use Rattle.ground.specs.Least.{least, leastFrom}
 use Rattle.ground.proofs.Bools.{clash, is-false, lt-or-ge, and-parts, and-both}
-use Rattle.ground.proofs.Minimum.{least-is, least-at, least-cong}
+use Rattle.ground.proofs.Minimum.{least-is, least-at}
 
 module _ (q : ℕ → Bool) where
   -- how code shows that it has found it
@@ -24,7 +24,7 @@ module _ (q : ℕ → Bool) where
   between a k b h i l m = ⊎-elim (λ o. b i l o) (λ o. let e : i ≡ k = omega arith in rw e h) (lt-or-ge i k)
 
   -- what it has found: it is not past n, none between has q, and it has q itself
-  pub from-high : (a n : ℕ) → leastFrom q a n ≤ n
+  from-high : (a n : ℕ) → leastFrom q a n ≤ n
   unfolding leastFrom
   from-high a n = least-is (λ i. leb a i && q i) n .low
 
@@ -32,7 +32,7 @@ module _ (q : ℕ → Bool) where
   unfolding leastFrom
   from-before a n i h l = is-false (q i) (λ e. clash (and-both _ _ (le-leb a i h) e) (least-is (λ i. leb a i && q i) n .before i l))
 
-  pub from-here : (a n : ℕ) → leastFrom q a n < n → (a ≤ leastFrom q a n) × (q (leastFrom q a n) ≡ true)
+  from-here : (a n : ℕ) → leastFrom q a n < n → (a ≤ leastFrom q a n) × (q (leastFrom q a n) ≡ true)
   unfolding leastFrom
   from-here a n l =
       let w = and-parts (leb a (leastFrom q a n)) (q (leastFrom q a n)) (least-is (λ i. leb a i && q i) n .here l) in
@@ -41,13 +41,11 @@ module _ (q : ℕ → Bool) where
   pub from-low : (a n : ℕ) → a ≤ n → a ≤ leastFrom q a n
   from-low a n h = ⊎-elim (λ l. from-here a n l .0) (λ g. omega arith) (lt-or-ge (leastFrom q a n) n)
 
-  pub from-start : (n : ℕ) → leastFrom q 0 n ≡ least q n
-  from-start n = from-at 0 n (least q n) (omega arith) (least-is q n .low) (λ i _. least-is q n .before i) (least-is q n .here)
-
--- it goes by the test alone
-pub from-cong : (q r : ℕ → Bool) (n : ℕ) → ((i : ℕ) → i < n → q i ≡ r i) → (a : ℕ) → leastFrom q a n ≡ leastFrom r a n
-unfolding leastFrom
-from-cong q r n h a = least-cong _ _ n (λ i l. rw (h i l))
+  -- where none before a has q it is the least of all
+  pub from-least : (a n : ℕ) → ((i : ℕ) → i < a → q i ≡ false) → leastFrom q a n ≡ least q n
+  from-least a n b =
+      sym (least-at q n (leastFrom q a n) (from-high a n) (λ i l. ⊎-elim (b i) (λ g. from-before a n i g l) (lt-or-ge i a))
+      (λ l. from-here a n l .1))
 
 -- The walk looks for a number with r, and only those with q can have it: it stands at k, and none before k has r.
 pub record Walked (q r : ℕ → Bool) (n k : ℕ) : Type 0 where

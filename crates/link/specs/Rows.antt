@@ -58,6 +58,10 @@ either h i = h one i || h two i
 unfoldable pub free : ℕ → ℕ → List ℕ → List ℕ → ℕ → ℕ → ℕ → Bool
 free p l ds os n d a = not (some (either (hits p l ds os d a)) n)
 
+-- row j of a plan meets an earlier row
+unfoldable pub blocked : ℕ → ℕ → List ℕ → List ℕ → ℕ → Bool
+blocked p l ds os j = not (free p l ds os j (getD ds j 0) (getD os j 0))
+
 -- the least row below n that is hit, and the crossing, 1 where both
 unfoldable pub firstHit : (Crossing → ℕ → Bool) → ℕ → Met
 firstHit h n = cond (some (either h) n) (Row (least (either h) n) (cond (h one (least (either h) n)) (numbered one) (numbered two))) Nobody

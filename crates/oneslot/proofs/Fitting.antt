@@ -1,6 +1,6 @@
 -- The code's test of a move, over lists of starts without the moved row, is the definition's: it serves. Assumes nothing.
 use mathlib.Core.Path.{_≡_, refl, sym, ap, _∙_}
-use mathlib.Core.Bool.{true, false, not, _&&_}
+use mathlib.Core.Bool.{Bool, true, false, not, _&&_}
 use mathlib.Core.List.{List}
 use mathlib.Core.Logic.{⊎-elim}
 use Prim.Native.Nat.{ℕ, _-_, _≤_, _<_}
@@ -19,23 +19,10 @@ use Rattle.link.proofs.Circle.{meets-apart}
 use Rattle.link.proofs.Meeting.{neither, none-hit, nobody-none, start-low}
 use Rattle.quick.specs.Ways.{openTo}
 use Rattle.oneslot.specs.Moves.{serves}
-use Rattle.oneslot.specs.Others.{lastOf, without, isBeside, openBeside, fits, canMove}
+use Rattle.oneslot.specs.Others.{lastOf, without, openBeside, fits, canMove}
+use Rattle.oneslot.proofs.Opening.{open-far, far-open, open-more}
 use Rattle.oneslot.proofs.Serving.{Off, OffOthers, serves-parts, parts-serve}
 use Rattle.oneslot.proofs.SoFar.{RowFree}
-
--- open to a row: none of the starts is near
-module _ (p l d : ℕ) (us vs : List ℕ) (a : ℕ) where
-  open-is : openTo p l d us vs 1 a ≡ not (some (either (near p l us vs a (second p d a))) (length us))
-  unfolding openTo firstNear
-  open-is = rw mul-one (nobody-none (near p l us vs a (second p d a)) (length us))
-
-  open-far : openTo p l d us vs 1 a ≡ true → (c : Crossing) (k : ℕ) → k < length us → near p l us vs a (second p d a) c k ≡ false
-  open-far e c k h =
-      none-hit (near p l us vs a (second p d a)) c k
-      (none-has (either (near p l us vs a (second p d a))) (length us) (not-true _ (sym open-is ∙ e)) k h)
-
-  far-open : ((c : Crossing) (k : ℕ) → k < length us → near p l us vs a (second p d a) c k ≡ false) → openTo p l d us vs 1 a ≡ true
-  far-open f = open-is ∙ ap not (some-none _ (length us) (λ k h. neither _ k (f one k h) (f two k h)))
 
 -- where each row but row i of j rows stands in a list without it
 module _ (i j : ℕ) (hi : i < j) where
@@ -77,32 +64,30 @@ module _
     near-meets d a k r h q has two =
         rw (has vs same, seconds r q) (sym (meets-apart p l _ _ (start-low p two _ _ (low r q)) (start-low p two d a h) hl))
 
-    as-many : length (without i os) ≡ length os - 1
+    as-many : (zs : List ℕ) → length zs ≡ length os → length (without i zs) ≡ length os - 1
     unfolding without
-    as-many = length-take-le (length os - 1) (set os i (lastOf os)) (rw length-set (omega arith))
+    as-many zs e = rw (← e) (length-take-le (length zs - 1) (set zs i (lastOf zs)) (rw length-set (omega arith)))
 
     open-off : (d a : ℕ) → a < p → openTo p l d (without i os) (without i vs) 1 a ≡ true → OffOthers p l ds os i d a
     open-off d a h e r q n c =
         let k = place-of i (length os) hi r q n in
-        sym (near-meets d a (k .0) r h q (k .2) c) ∙ open-far p l d (without i os) (without i vs) a e c (k .0) (rw as-many (k .1))
+        sym (near-meets d a (k .0) r h q (k .2) c) ∙ open-far p l d (without i os) (without i vs) a e c (k .0) (rw (as-many os refl) (k .1))
 
     off-open : (d a : ℕ) → a < p → OffOthers p l ds os i d a → openTo p l d (without i os) (without i vs) 1 a ≡ true
     off-open d a h f =
         far-open p l d (without i os) (without i vs) a (λ c k q.
-        let r = row-at i (length os) hi k (rw as-many at q) in
+        let r = row-at i (length os) hi k (rw (as-many os refl) at q) in
         near-meets d a k (r .0) h (r .1) (r .3) c ∙ f (r .0) (r .1) (r .2) c)
 
     -- clear of each other
-    beside-off : (d e x y : ℕ) → x < p → y < p → isBeside p l x (second p d x) e y ≡ true → Off p l d x e y
-    unfolding isBeside
+    beside-off : (d e x y : ℕ) → x < p → y < p → (apartb p l x y && apartb p l (second p d x) (second p e y)) ≡ true → Off p l d x e y
     beside-off d e x y h k f one =
         meets-apart p l x y h k hl ∙ ap not (and-parts (apartb p l x y) (apartb p l (second p d x) (second p e y)) f .0)
     beside-off d e x y h k f two =
         meets-apart p l _ _ (start-low p two d x h) (start-low p two e y k) hl
         ∙ ap not (and-parts (apartb p l x y) (apartb p l (second p d x) (second p e y)) f .1)
 
-    off-beside : (d e x y : ℕ) → x < p → y < p → Off p l d x e y → isBeside p l x (second p d x) e y ≡ true
-    unfolding isBeside
+    off-beside : (d e x y : ℕ) → x < p → y < p → Off p l d x e y → (apartb p l x y && apartb p l (second p d x) (second p e y)) ≡ true
     off-beside d e x y h k f =
         and-both _ _ (not-false (apartb p l x y) (sym (meets-apart p l x y h k hl) ∙ f one))
         (not-false (apartb p l (second p d x) (second p e y))
@@ -113,9 +98,10 @@ module _
         → canMove p l ds (getD ds (length os) 0) os vs i x y ≡ serves p l ds os i x y
     unfolding canMove fits openBeside
     can-move-serves clear x y h k =
-        same-test _ _
-        (λ f. let a = and-parts (openTo p l e us ws 1 x) (openTo p l d us ws 1 y && isBeside p l x (second p e x) d y) f in
-        let b = and-parts (openTo p l d us ws 1 y) (isBeside p l x (second p e x) d y) (a .1) in
+        ap (λ (t : Bool). openTo p l e us ws 1 x && t) (open-more p l d us ws alike x (second p e x) y)
+        ∙ same-test _ _
+        (λ f. let a = and-parts (openTo p l e us ws 1 x) (openTo p l d us ws 1 y && (apartb p l x y && apartb p l (second p e x) (second p d y))) f in
+        let b = and-parts (openTo p l d us ws 1 y) ((apartb p l x y && apartb p l (second p e x) (second p d y))) (a .1) in
         parts-serve p l ds os hp clear i x y hi
         (record { moves = open-off e x h (a .0); comes = open-off d y k (b .0); both = beside-off e d x y h k (b .1) }))
         (λ f. let w = serves-parts p l ds os hp clear i x y hi f in
@@ -132,3 +118,6 @@ module _
 
         ws : List ℕ
         ws = without i vs
+
+        alike : length us ≡ length ws
+        alike = as-many os refl ∙ sym (as-many vs same)

@@ -5,6 +5,7 @@ pub mod Choosing
 pub mod NextRow
 pub mod Sound
 pub mod Serving
+pub mod Opening
 pub mod Fitting
 pub mod Settling
 pub mod MakingRoom

@@ -8,7 +8,7 @@ use lib.ListN.{length, getD, take}
 use lib.Seq.{getD-take, length-take-le}
 use borrow.Author.Tests.{not-true, not-false}
 use Rattle.ground.proofs.Minimum.{none-has, some-none}
-use Rattle.link.specs.Rows.{free, Clear}
+use Rattle.link.specs.Rows.{free, blocked, Clear}
 use Rattle.link.proofs.Clearness.{clear-rows, rows-clear, free-table}
 use Rattle.oneslot.specs.Moves.{allClear}
 
@@ -18,12 +18,12 @@ module _ (p l : ℕ) (ds os : List ℕ) where
   RowFree j = free p l ds os j (getD ds j 0) (getD os j 0) ≡ true
 
   pub each-free : allClear p l ds os ≡ true → (j : ℕ) → j < length os → RowFree j
-  unfolding allClear
-  each-free e j h = not-false _ (none-has (λ j. not (free p l ds os j (getD ds j 0) (getD os j 0))) (length os) (not-true _ e) j h)
+  unfolding allClear blocked
+  each-free e j h = not-false _ (none-has (blocked p l ds os) (length os) (not-true _ e) j h)
 
   pub free-each : ((j : ℕ) → j < length os → RowFree j) → allClear p l ds os ≡ true
-  unfolding allClear
-  free-each f = ap not (some-none (λ j. not (free p l ds os j (getD ds j 0) (getD os j 0))) (length os) (λ j h. ap not (f j h)))
+  unfolding allClear blocked
+  free-each f = ap not (some-none (blocked p l ds os) (length os) (λ j h. ap not (f j h)))
 
   -- the same of the first n rows of the table, by their own delays
   module _ (n : ℕ) (hn : n ≤ length ds) where

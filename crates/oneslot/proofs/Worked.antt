@@ -11,7 +11,7 @@ use Rattle.ground.proofs.Bools.{clash}
 use Rattle.ground.proofs.Minimum.{none-has}
 use Rattle.link.specs.Range.{GoodTable}
 use Rattle.link.specs.Refusal.{linkFaults, rowFaults, roomFaults}
-use Rattle.link.specs.Rows.{second, start, hits, either, free}
+use Rattle.link.specs.Rows.{second, start, hits, either, free, blocked}
 use Rattle.link.specs.Slots.{uses, meets}
 use Rattle.link.specs.declared.Link.{Link}
 use Rattle.quick.specs.Answer.{planning, said, outcome, quick, firstFit}
@@ -44,19 +44,19 @@ plan₁ = 2 ∷ 1 ∷ 0 ∷ 3 ∷ 9 ∷ []
 
 -- 4, 1, (0 2 1 1): First Fit gives 13 at row 2
 pub let-in : gives (said Plan) plan₁ ≡ oneSlot (link 4 1) ds₁ old
-unfolding said oneSlot outcome settled settle orMoved place freeAt allClear serves opens moveOf givesWay leastMove free hits first andThen
+unfolding said oneSlot outcome settled settle orMoved place freeAt allClear blocked serves opens moveOf givesWay leastMove free hits first andThen
     linkFaults rowFaults roomFaults sizeFaults start outside either second uses meets least oneMore
 let-in = refl
 
 -- 2, 1, (0 1): wherever the two rows stand, they meet in one of the crossings
 pub gives-up : gives (said (Refused 13 1)) old ≡ oneSlot (link 2 1) ds₂ old
-unfolding said oneSlot outcome settled settle orMoved place freeAt allClear serves opens moveOf givesWay leastMove free hits first andThen
+unfolding said oneSlot outcome settled settle orMoved place freeAt allClear blocked serves opens moveOf givesWay leastMove free hits first andThen
     linkFaults rowFaults roomFaults sizeFaults start outside either second uses meets least oneMore
 gives-up = refl
 
 -- 4, 2, (0 1): the size isn't 1
 pub two-slots : gives (said (Refused 25 0)) old ≡ oneSlot (link 4 2) ds₂ old
-unfolding said oneSlot outcome settled settle orMoved place freeAt allClear serves opens moveOf givesWay leastMove free hits first andThen
+unfolding said oneSlot outcome settled settle orMoved place freeAt allClear blocked serves opens moveOf givesWay leastMove free hits first andThen
     linkFaults rowFaults roomFaults sizeFaults start outside either second uses meets least oneMore
 two-slots = refl
 
@@ -77,7 +77,7 @@ abbrev four-in : List ℕ
 four-in = 2 ∷ 1 ∷ 0 ∷ 3 ∷ []
 
 pub gives-way : Next 4 1 ds₁ two-in three-in
-unfolding settle orMoved place freeAt allClear serves opens moveOf givesWay leastMove free hits start either second uses meets least oneMore
+unfolding settle orMoved place freeAt allClear blocked serves opens moveOf givesWay leastMove free hits start either second uses meets least oneMore
 gives-way = is-next 4 1 ds₁ (omega arith) two-in (omega arith) three-in refl
 
 pub at-most-one : (i : ℕ) × OthersStay two-in three-in i
@@ -92,7 +92,7 @@ just-one = one-moves 4 1 ds₁ two-in (omega arith) none-free gives-way
 
 -- the offset 3 is free for row 3, and the others stay
 pub comes-in : Next 4 1 ds₁ three-in four-in
-unfolding settle orMoved place freeAt allClear serves opens moveOf givesWay leastMove free hits start either second uses meets least oneMore
+unfolding settle orMoved place freeAt allClear blocked serves opens moveOf givesWay leastMove free hits start either second uses meets least oneMore
 comes-in = is-next 4 1 ds₁ (omega arith) three-in (omega arith) four-in refl
 
 pub no-one : (j : ℕ) → j < 3 → getD four-in j 0 ≡ getD three-in j 0

@@ -3,9 +3,9 @@
 use mathlib.Core.Bool.{Bool, not, cond}
 use mathlib.Core.List.{List, [], _∷_, _++_}
 use Prim.Native.Nat.{ℕ}
-use lib.ListN.{length, getD, set}
+use lib.ListN.{length, set}
 use Rattle.ground.specs.Least.{least, some}
-use Rattle.link.specs.Rows.{free}
+use Rattle.link.specs.Rows.{blocked}
 use Rattle.oneslot.specs.declared.Move.{Move}
 use Rattle.oneslot.specs.declared.Move.the-variants.{None, Row}
 
@@ -15,7 +15,7 @@ moved os i x y = set os i x ++ (y ∷ [])
 
 -- the rows with the offsets os are clear: none of them meets an earlier one
 unfoldable pub allClear : ℕ → ℕ → List ℕ → List ℕ → Bool
-allClear p l ds os = not (some (λ j. not (free p l ds os j (getD ds j 0) (getD os j 0))) (length os))
+allClear p l ds os = not (some (blocked p l ds os) (length os))
 
 -- "so that all rows so far are clear"
 unfoldable pub serves : ℕ → ℕ → List ℕ → List ℕ → ℕ → ℕ → ℕ → Bool

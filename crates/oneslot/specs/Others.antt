@@ -1,11 +1,10 @@
 -- What the inner functions go by: lists of starts, xs in crossing 1 and ys in crossing 2, and the code's tests over them.
 use mathlib.Core.Bool.{Bool, _&&_}
-use mathlib.Core.List.{List}
+use mathlib.Core.List.{List, [], _∷_, _++_}
 use Prim.Native.Nat.{ℕ, _-_}
 use lib.ListN.{length, getD, take, set}
 use Rattle.ground.specs.Lent.{onFront}
 use Rattle.link.specs.Rows.{second}
-use Rattle.link.specs.Slots.{apartb}
 use Rattle.quick.specs.Ways.{openTo}
 
 -- the last of a list
@@ -20,17 +19,13 @@ without i zs = take (length zs - 1) (set zs i (lastOf zs))
 unfoldable pub leftOut : ℕ → List ℕ → List ℕ → List ℕ
 leftOut i zs old = set (onFront zs old) i (lastOf zs)
 
--- a row of delay d at the offset y is clear of one that starts at a and b
-unfoldable pub isBeside : ℕ → ℕ → ℕ → ℕ → ℕ → ℕ → Bool
-isBeside p l a b d y = apartb p l a y && apartb p l b (second p d y)
-
--- and of all rows with the starts xs and ys
-unfoldable pub openBeside : ℕ → ℕ → ℕ → List ℕ → List ℕ → ℕ → ℕ → ℕ → Bool
-openBeside p l d xs ys a b y = openTo p l d xs ys 1 y && isBeside p l a b d y
+-- open to a row of delay d at y: rows with the starts xs and ys, and one of delay e at x
+unfoldable pub openBeside : ℕ → ℕ → ℕ → ℕ → List ℕ → List ℕ → ℕ → ℕ → Bool
+openBeside p l e d xs ys x y = openTo p l d (xs ++ (x ∷ [])) (ys ++ (second p e x ∷ [])) 1 y
 
 -- rows of the delays e and d have room at x and y: clear of those with the starts xs and ys, and of each other
 unfoldable pub fits : ℕ → ℕ → ℕ → ℕ → List ℕ → List ℕ → ℕ → ℕ → Bool
-fits p l e d xs ys x y = openTo p l e xs ys 1 x && openBeside p l d xs ys x (second p e x) y
+fits p l e d xs ys x y = openTo p l e xs ys 1 x && openBeside p l e d xs ys x y
 
 -- row i, of those with the starts xs and ys, can go to x to let a new row of delay d in at y
 unfoldable pub canMove : ℕ → ℕ → List ℕ → ℕ → List ℕ → List ℕ → ℕ → ℕ → ℕ → Bool

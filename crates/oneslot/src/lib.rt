@@ -8,7 +8,7 @@ ghost use mathlib.Core.Path.{_≡_};
 ghost use Prim.Native.Nat.{_≤_, _<_};
 ghost use lib.ListN.{length};
 ghost use Rattle.ground.specs.Judging.{first};
-ghost use Rattle.ground.specs.Least.{least};
+ghost use Rattle.ground.specs.Least.{leastFrom};
 ghost use Rattle.ground.specs.Protocol.{gives};
 ghost use Rattle.link.specs.Limits.{maxRows};
 ghost use Rattle.quick.specs.Answer.{said, outcome};
@@ -16,7 +16,7 @@ ghost use Rattle.quick.specs.Ways.{Ways};
 ghost use Rattle.oneslot.specs.Answer.{faults, oneSlot};
 ghost use Rattle.oneslot.specs.Moves.{leastMove, moveOf};
 ghost use Rattle.oneslot.specs.Plan.{allSettled};
-ghost use Rattle.oneslot.specs.Others.{without, leftOut, isBeside, openBeside, fits, canMove};
+ghost use Rattle.oneslot.specs.Others.{without, leftOut, openBeside, fits, canMove};
 
 // "25, after 12's place in the order, if the size isn't 1"
 pub const NOT_ONE_SLOT: u32 = 25;
@@ -171,17 +171,18 @@ fn make_room(
     seconds: &[u32],
 ) -> Move
     requires { ⌜ Ways period span 1 period ⌝ }
-    requires { ⌜ length (now firsts) ≡ length (now seconds) ⌝ }
+    requires { ⌜ (length (now firsts) ≡ length (now seconds)) × (length (now firsts) < maxRows) ⌝ }
     ensures { λ r. ⌜ r ≡ moveOf period (fits period span moving delay (now (firsts .entry)) (now (seconds .entry))) row ⌝ }
 {
+    let least = quick::first_free(period, span, delay, firsts, seconds, 1, 0, period);
     // with no room for the new row even so, no offset of the moved one helps
-    if quick::first_free(period, span, delay, firsts, seconds, 1, 0, period) >= period {
+    if least >= period {
         return Move::None;
     }
+    // an offset fails only if it is in the way of every one left to the new row, so few are tried
     let mut to = quick::first_free(period, span, moving, firsts, seconds, 1, 0, period);
     while to < period {
-        let b = link::second_start(period, moving, to);
-        let offset = beside(period, span, delay, firsts, seconds, to, b);
+        let offset = beside(period, span, delay, firsts, seconds, moving, to, least);
         if offset < period {
             return Move::Row { row, to, offset };
         }
@@ -190,38 +191,35 @@ fn make_room(
     Move::None
 }
 
-// The least offset at which a row with this delay is clear of the rows with these starts and of one that starts at a and b.
+// The least offset from `from` on for a row with this delay, beside rows with these starts and one more: the moved row at `to`.
 fn beside(
     period: u32,
     span: u32,
     delay: u32,
     firsts: &[u32],
     seconds: &[u32],
-    a: u32,
-    b: u32,
+    moving: u32,
+    to: u32,
+    from: u32,
 ) -> u32
-    requires { ⌜ Ways period span 1 period ⌝ }
-    requires { ⌜ length (now firsts) ≡ length (now seconds) ⌝ }
-    ensures { λ r. ⌜ r ≡ least (openBeside period span delay (now (firsts .entry)) (now (seconds .entry)) a b) period ⌝ }
+    requires { ⌜ Ways period span 1 period × (from ≤ period) ⌝ }
+    requires { ⌜ (length (now firsts) ≡ length (now seconds)) × (length (now firsts) < maxRows) ⌝ }
+    ensures { λ r. ⌜ r ≡ leastFrom (openBeside period span moving delay (now (firsts .entry)) (now (seconds .entry)) to) from period ⌝ }
 {
-    let mut y = quick::first_free(period, span, delay, firsts, seconds, 1, 0, period);
-    while y < period {
-        if is_beside(period, span, a, b, delay, y) {
-            return y;
-        }
-        y = quick::first_free(period, span, delay, firsts, seconds, 1, y + 1, period);
-    }
-    y
-}
-
-// A row with this delay, at the offset y, is clear of one that starts at a and b.
-fn is_beside(period: u32, span: u32, a: u32, b: u32, delay: u32, y: u32) -> bool
-    requires { ⌜ 0 < period ⌝ }
-    ensures { λ r. ⌜ r ≡ isBeside period span a b delay y ⌝ }
-{
-    if !link::apart(period, span, a, y) {
-        return false;
-    }
-    let c = link::second_start(period, delay, y);
-    link::apart(period, span, b, c)
+    let mut others = [0u32; MAX_ROWS];
+    let mut beyond = [0u32; MAX_ROWS];
+    ground::copy_out(firsts, &mut others);
+    ground::copy_out(seconds, &mut beyond);
+    let last = firsts.len();
+    quick::put(period, moving, to, last, &mut others, &mut beyond);
+    quick::first_free(
+        period,
+        span,
+        delay,
+        &others[..last + 1],
+        &beyond[..last + 1],
+        1,
+        from,
+        period,
+    )
 }

@@ -13,10 +13,9 @@ use Rattle.ground.specs.Least.{least, oneMore, some}
 use Rattle.ground.specs.Words.{begins}
 use Rattle.ground.proofs.Minimum.{none-has}
 use Rattle.link.specs.Slots.{uses, meets}
-use Rattle.link.specs.Rows.{start, second, hits, either, free}
+use Rattle.link.specs.Rows.{start, second, hits, either, free, blocked}
 use Rattle.link.specs.Refusal.{linkFaults, rowFaults, offsetFaults}
 use Rattle.link.specs.declared.Link.{Link}
-use Rattle.checker.specs.Answer.{blocked}
 use Rattle.checker.specs.Judging.{clearFaults}
 use Rattle.checker.specs.Order.{FirstCollision}
 use Rattle.checker.specs.declared.Checked.the-variants.{Collision}

@@ -11,7 +11,7 @@ use borrow.Author.Count.{below-none}
 use borrow.Author.Tests.{eqb-true, eqb-false}
 use Rattle.ground.specs.Least.{least, leastFrom}
 use Rattle.ground.proofs.Bools.{true-or-false}
-use Rattle.ground.proofs.Hunting.{from-start}
+use Rattle.ground.proofs.Hunting.{from-least}
 use Rattle.ground.proofs.Minimum.{least-cong}
 use Rattle.link.specs.Limits.{maxRows}
 use Rattle.link.specs.Rows.{second, start, isNobody}
@@ -88,4 +88,4 @@ module _ (p l : ℕ) (ds : List ℕ) (j : ℕ) (hj : j < maxRows) (xs ys : List 
   pub least-free : (step count : ℕ) → Ways p l step count → (c : ℕ)
       → c ≡ leastFrom (openTo p l (getD ds j 0) (take j xs) (take j ys) step) 0 count
       → c ≡ least (freeAt p l ds (take j xs) j step) count
-  least-free step count w c e = e ∙ from-start _ count ∙ least-cong _ _ count (open-free step count w)
+  least-free step count w c e = e ∙ from-least _ 0 count (below-none _) ∙ least-cong _ _ count (open-free step count w)

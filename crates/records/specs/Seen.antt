@@ -8,10 +8,10 @@ use lib.ListN.{length, getD}
 use Rattle.ground.specs.Least.{least}
 use Rattle.link.specs.Limits.{maxDelay, maxRows}
 use Rattle.link.specs.Range.{InRange}
-use Rattle.link.specs.Rows.{one, two, spanOf, start}
+use Rattle.link.specs.Rows.{one, two, spanOf, start, blocked}
 use Rattle.link.specs.declared.Link.{Link}
 use Rattle.link.specs.declared.Met.the-variants.{Nobody, Row}
-use Rattle.checker.specs.Answer.{colliding, blocked, named}
+use Rattle.checker.specs.Answer.{colliding, named}
 use Rattle.records.specs.Columns.{delaysOf, offsetsOf}
 use Rattle.records.specs.declared.Record.{Record}
 use Rattle.records.specs.declared.Pairs.{Pairs}

@@ -8,10 +8,9 @@ use Rattle.ground.specs.Least.{least, oneMore}
 use Rattle.link.specs.Range.{GoodPlan}
 use Rattle.ground.specs.Judging.{first, outside, andThen}
 use Rattle.link.specs.Refusal.{linkFaults, rowFaults, offsetFaults}
-use Rattle.link.specs.Rows.{Crossing, one, second, start, hits, either, free, Clear}
+use Rattle.link.specs.Rows.{Crossing, one, second, start, hits, either, free, Clear, blocked}
 use Rattle.link.specs.Slots.{uses, after, meets}
 use Rattle.link.specs.declared.Link.{Link}
-use Rattle.checker.specs.Answer.{blocked}
 use Rattle.checker.specs.Judging.{clearFaults}
 use Rattle.checker.specs.declared.Checked.the-variants.{Collision}
 use Rattle.checker.proofs.Promises.{collision-is-first}

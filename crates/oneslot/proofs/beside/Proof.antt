@@ -1,75 +1,95 @@
--- Invariant: y is open to the row, or the period is through, and no offset before y is open beside the starts a and b.
-use mathlib.Core.Path.{sym, _∙_}
-use Prim.Native.Nat.{_+_, _-_}
+-- The two arrays hold the starts, and behind them those of the moved row.
+use mathlib.Core.Path.{refl, sym, _∙_}
 use native.Mathlib.Omega.{arith}
-use Rattle.quick.specs.Ways.{openTo}
-use Rattle.ground.proofs.Hunting.{Walked, walk-begins, walk-goes-on, walk-finds, from-low}
-use Rattle.ground.proofs.Minimum.{least-at}
+use lib.Seq.{length-take-le}
 use Rattle.oneslot.specs.Others.{openBeside}
-use Rattle.oneslot.proofs.MakingRoom.{shut-beside, open-beside}
+use Rattle.oneslot.proofs.MakingRoom.{added}
+use borrow.Author.Needs.{needs}
 use Rattle.oneslot.proofs.beside.Statement.{statement}
 use Rattle.oneslot.proofs.beside.Tie as tie
 
-abbrev Inv-loop : tie.InvT-loop
-Inv-loop period span delay firsts seconds a b y₀ y =
-    Walked (openTo period span delay firsts seconds 1) (openBeside period span delay firsts seconds a b) period y
+slice-aggregate-copy-out : tie.Need-slice-aggregate-copy-out
+slice-aggregate-copy-out c = search needs
 
-abbrev μ-loop : tie.MeasureT-loop
-μ-loop period span delay firsts seconds a b y₀ y = period - y
+copy-out-requires : tie.Need-copy-out-requires
+copy-out-requires c κs = search needs
 
-first-free-requires : tie.Need-first-free-requires Inv-loop μ-loop
-first-free-requires c κs = let u = c .before .before in (u .pre .0, (omega arith, u .pre .1))
+slice-aggregate-copy-out-2 : tie.Need-slice-aggregate-copy-out-2
+slice-aggregate-copy-out-2 c = search needs
 
-loop-holds : tie.Need-loop-holds Inv-loop μ-loop
-loop-holds c = walk-begins _ _ _ (shut-beside _ _ _ _ _ _ _) _ (c .first-free .ensures)
+copy-out-requires-2 : tie.Need-copy-out-requires-2
+copy-out-requires-2 c κs = search needs
 
-is-beside-requires : tie.Need-is-beside-requires Inv-loop μ-loop
-is-beside-requires c κs = c .before .before .before .before .before .pre .0 .some-period
+slice-aggregate-put : tie.Need-slice-aggregate-put
+slice-aggregate-put c = search needs
 
-returns : tie.Need-returns Inv-loop μ-loop
+slice-aggregate-put-2 : tie.Need-slice-aggregate-put-2
+slice-aggregate-put-2 c = search needs
+
+put-requires : tie.Need-put-requires
+put-requires c κs =
+    let u = c .before .before .before .before .before .before .before .before .before .before in
+    (u .pre .0 .0 .some-period, omega arith, omega arith)
+
+add-others : tie.Need-add-others
+add-others c = search needs
+
+array-share-prefix-others : tie.Need-array-share-prefix-others
+array-share-prefix-others c = search needs
+
+slice-aggregate-first-free : tie.Need-slice-aggregate-first-free
+slice-aggregate-first-free c = sym (length-take-le _ _ (omega arith))
+
+add-beyond : tie.Need-add-beyond
+add-beyond c = search needs
+
+array-share-prefix-beyond : tie.Need-array-share-prefix-beyond
+array-share-prefix-beyond c = search needs
+
+slice-aggregate-first-free-2 : tie.Need-slice-aggregate-first-free-2
+slice-aggregate-first-free-2 c = sym (length-take-le _ _ (omega arith))
+
+first-free-requires : tie.Need-first-free-requires
+first-free-requires c κs =
+    let at-put = c .before .before .before .before in
+    let at-beyond = at-put .before .before .before .before in
+    let at-others = at-beyond .before .before .before in
+    let u = at-others .before .before .before .before in
+    let xs = u .args .firsts .now in
+    let ys = u .args .seconds .now in
+    let others = added _ xs _ _ refl (omega arith) (at-others .copy-out .ensures) _ _ (at-put .put .ensures .0) in
+    let beyond = added _ ys _ _ (sym (u .pre .1 .0)) (omega arith) (at-beyond .copy-out2 .ensures) _ _ (at-put .put .ensures .1) in
+    (u .pre .0 .0, (u .pre .0 .1, sym (others .front-length) ∙ beyond .front-length))
+
+returns : tie.Need-returns
+unfolding openBeside
 returns c =
-    let l = c .before .before .before .loop in
-    let at-is-beside = c .before .is-beside in
-    let here = open-beside _ _ _ _ _ _ _ (l .y) (l .inv .here (omega arith)) ∙ sym (at-is-beside .ensures) ∙ c .if1 .taken in
-    sym (walk-finds _ _ _ _ (l .inv) here)
-
-add-first-free : tie.Need-add-first-free Inv-loop μ-loop
-add-first-free c = omega (arith, c .before .before .before .before .before .before .before .pre .0 .period)
-
-first-free-requires-2 : tie.Need-first-free-requires-2 Inv-loop μ-loop
-first-free-requires-2 c κs = let u = c .before .before .before .before .before .before .before in (u .pre .0, (omega arith, u .pre .1))
-
-loop-less : tie.Need-loop-less Inv-loop μ-loop
-loop-less c =
-    let l = c .before .before .before .before .loop in
-    let u = c .before .before .before .before .before .before .before .before in
-    let opened = openTo (u .args .period) (u .args .span) (u .args .delay) (u .args .firsts .now) (u .args .seconds .now) 1 in
-    omega (arith, from-low opened (l .y + 1) (u .args .period) (omega arith), c .first-free2 .ensures)
-
-loop-again : tie.Need-loop-again Inv-loop μ-loop
-loop-again c =
-    let l = c .before .before .before .before .loop in
-    let at-is-beside = c .before .before .is-beside in
-    let shut = open-beside _ _ _ _ _ _ _ (l .y) (l .inv .here (omega arith)) ∙ sym (at-is-beside .ensures) ∙ c .before .if1 .left in
-    walk-goes-on _ _ _ (shut-beside _ _ _ _ _ _ _) (l .y) _ (l .inv) shut (c .first-free2 .ensures)
-
-returns-2 : tie.Need-returns-2 Inv-loop μ-loop
-returns-2 c =
-    let l = c .before .loop in
-    sym (least-at _ _ _ (l .inv .high) (l .inv .before) (λ h. absurd (omega arith)))
+    let at-put = c .before .before .before .before .before in
+    let at-beyond = at-put .before .before .before .before in
+    let at-others = at-beyond .before .before .before in
+    let u = at-others .before .before .before .before in
+    let xs = u .args .firsts .now in
+    let ys = u .args .seconds .now in
+    let others = added _ xs _ _ refl (omega arith) (at-others .copy-out .ensures) _ _ (at-put .put .ensures .0) in
+    let beyond = added _ ys _ _ (sym (u .pre .1 .0)) (omega arith) (at-beyond .copy-out2 .ensures) _ _ (at-put .put .ensures .1) in
+    rw (others .front, beyond .front) at (c .first-free .ensures)
 
 pub beside-spec : {M : Type 1} → statement M
 beside-spec =
     tie.close
     (tie.spec
-    Inv-loop
-    μ-loop
+    slice-aggregate-copy-out
+    copy-out-requires
+    slice-aggregate-copy-out-2
+    copy-out-requires-2
+    slice-aggregate-put
+    slice-aggregate-put-2
+    put-requires
+    add-others
+    array-share-prefix-others
+    slice-aggregate-first-free
+    add-beyond
+    array-share-prefix-beyond
+    slice-aggregate-first-free-2
     first-free-requires
-    loop-holds
-    is-beside-requires
-    returns
-    add-first-free
-    first-free-requires-2
-    loop-less
-    loop-again
-    returns-2)
+    returns)

@@ -1,5 +1,6 @@
 -- What the two arrays hold in front of the last place is what `without` says.
 use mathlib.Core.Path.{refl, sym, _∙_}
+use native.Mathlib.Omega.{arith}
 use Rattle.oneslot.proofs.Finding.{held}
 use borrow.Author.Needs.{needs}
 use Rattle.oneslot.proofs.give_way.Statement.{statement}
@@ -43,7 +44,7 @@ make-room-requires c κs =
     let u = at-others .before .before .before .before in
     let others = held _ _ _ _ _ refl (u .pre .1 .0) (u .pre .1 .2) (at-others .leave-out .ensures) in
     let beyond = held _ _ _ _ _ (sym (u .pre .1 .1)) (u .pre .1 .0) (u .pre .1 .2) (at-beyond .leave-out2 .ensures) in
-    (u .pre .0, sym (others .front-length) ∙ beyond .front-length)
+    (u .pre .0, (sym (others .front-length) ∙ beyond .front-length, omega (arith, others .front-length, u .pre .1 .0, u .pre .1 .2)))
 
 returns : tie.Need-returns
 returns c =
