@@ -225,29 +225,27 @@ static uint32_t next_free(const struct placed *placed, uint32_t delay, uint32_t 
     return first;
 }
 
-/* The least offset that is free and leaves a row alone that starts at first and second. */
-static uint32_t next_beside(const struct placed *placed, uint32_t delay, uint32_t period,
-                            uint32_t size, uint32_t first, uint32_t second)
+static void put_at(struct placed *placed, size_t row, uint32_t delay, uint32_t period,
+                   uint32_t offset)
 {
-    uint32_t offset = next_free(placed, delay, period, size, 0);
-    while (offset < period &&
-           (meet(first, offset, period, size) ||
-            meet(second, second_start(offset, delay, period), period, size)))
-        offset = next_free(placed, delay, period, size, offset + 1);
-    return offset;
+    placed->firsts[row] = offset;
+    placed->seconds[row] = second_start(offset, delay, period);
 }
 
 /* Offsets for a row that is moved and for a new one, beside the others and each other. */
-static bool make_room(const struct placed *others, uint32_t moving, uint32_t delay,
-                      uint32_t period, uint32_t size, struct move *move)
+static bool make_room(struct placed *others, uint32_t moving, uint32_t delay, uint32_t period,
+                      uint32_t size, struct move *move)
 {
+    uint32_t least = next_free(others, delay, period, size, 0);
     /* with no room for the new row even so, no offset of the moved one helps */
-    if (next_free(others, delay, period, size, 0) >= period)
+    if (least >= period)
         return false;
     move->to = next_free(others, moving, period, size, 0);
     while (move->to < period) {
-        uint32_t second = second_start(move->to, moving, period);
-        move->offset = next_beside(others, delay, period, size, move->to, second);
+        put_at(others, others->rows, moving, period, move->to);
+        others->rows++;
+        move->offset = next_free(others, delay, period, size, least);
+        others->rows--;
         if (move->offset < period)
             return true;
         move->to = next_free(others, moving, period, size, move->to + 1);
@@ -276,13 +274,6 @@ static bool find_move(const struct placed *placed, const uint32_t *delays, uint3
             return true;
     }
     return false;
-}
-
-static void put_at(struct placed *placed, size_t row, uint32_t delay, uint32_t period,
-                   uint32_t offset)
-{
-    placed->firsts[row] = offset;
-    placed->seconds[row] = second_start(offset, delay, period);
 }
 
 /* Puts the next row in by a move. */

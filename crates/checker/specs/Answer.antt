@@ -1,10 +1,10 @@
 -- What the checker answers.
-use mathlib.Core.Bool.{Bool, not, cond}
+use mathlib.Core.Bool.{cond}
 use mathlib.Core.List.{List}
 use Prim.Native.Nat.{ℕ}
 use lib.ListN.{length, getD}
 use Rattle.ground.specs.Least.{least, some}
-use Rattle.link.specs.Rows.{spanOf, metAt, free, blocked}
+use Rattle.link.specs.Rows.{spanOf, metAt, blocked}
 use Rattle.ground.specs.Judging.{first}
 use Rattle.ground.specs.Protocol.{unless}
 use Rattle.link.specs.Refusal.{planFaults}

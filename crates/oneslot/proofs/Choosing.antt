@@ -8,15 +8,11 @@ use native.Mathlib.Omega.{arith}
 use borrow.Author.Tests.{ltb-true}
 use Rattle.ground.specs.Least.{least, some}
 use Rattle.ground.proofs.Bools.{clash, is-false, lt-or-ge}
-use Rattle.ground.proofs.Minimum.{least-is, some-at, some-has, none-has}
+use Rattle.ground.proofs.Minimum.{least-low, some-at, some-has, none-has}
 use Rattle.oneslot.specs.Moves.{opens, moveOf, givesWay, leastMove}
 use Rattle.oneslot.specs.Right.{NotAfter}
 use Rattle.oneslot.specs.declared.Move.{Move}
 use Rattle.oneslot.specs.declared.Move.the-variants.{None, Row}
-
--- nothing that has q is below the least that has it
-pub least-low : (q : ℕ → Bool) (n i : ℕ) → q i ≡ true → least q n ≤ i
-least-low q n i h = ⊎-elim (λ m. clash h (least-is q n .before i m)) (λ g. g) (lt-or-ge i (least q n))
 
 -- two that are not after each other agree, and what decides next decides both ways
 agree : {R S : Type 0} (a b : ℕ) → (a < b) ⊎ ((a ≡ b) × R) → (b < a) ⊎ ((b ≡ a) × S) → (a ≡ b) × R × S
@@ -108,8 +104,8 @@ module _ (p : ℕ) (q : ℕ → ℕ → ℕ → Bool) (n : ℕ) where
       rw (rows .0, news .0, e)
 
   -- how to show which it takes
-  pub takes : (m : Move) → Chooses m → leastMove p q n ≡ m
-  takes m c = only-one (leastMove p q n) m chooses c
+  pub only-choice : (m : Move) → Chooses m → leastMove p q n ≡ m
+  only-choice m c = only-one (leastMove p q n) m chooses c
 
   -- and what it is that it has taken
   pub taken : (m : Move) → leastMove p q n ≡ m → Chooses m
@@ -118,7 +114,7 @@ module _ (p : ℕ) (q : ℕ → ℕ → ℕ → Bool) (n : ℕ) where
 -- two tests that say the same of every move in range take the same one
 pub least-move-cong : (p : ℕ) (q r : ℕ → ℕ → ℕ → Bool) (n : ℕ) → ((i x y : ℕ) → i < n → x < p → y < p → q i x y ≡ r i x y)
     → leastMove p q n ≡ leastMove p r n
-least-move-cong p q r n h = takes p q n (leastMove p r n) (go (leastMove p r n) (chooses p r n))
+least-move-cong p q r n h = only-choice p q n (leastMove p r n) (go (leastMove p r n) (chooses p r n))
   where
     go : (m : Move) → Chooses p r n m → Chooses p q n m
     go None c = λ i x y a b d. h i x y a b d ∙ c i x y a b d

@@ -57,11 +57,7 @@ module _ (k : Link) (ds old : List ℕ) where
           (placed-settled (k .period) (spanOf k) ds (length ds) os f) h)
       go g (stuck j) f h = never (cc (ap (λ (x : Outcome Said (List ℕ)). x .says .verdict) h))
 
-  module _ (load : 2 * length ds - 1 ≤ k .period) (g : GoodTable k ds) (s : k .size ≡ 1) (room : length ds ≤ length old) where
-    -- for messages of one slot First Fit's bound, (3n-2)T - n below P, is 2n-1 at most P
-    light : FirstFitLoad k ds
-    light = rw (s, mul-one) (omega (arith, load, g .rows-low, g .period-low))
-
+  module _ (load : FirstFitLoad k ds) (g : GoodTable k ds) (room : length ds ≤ length old) where
     first-fit-plans : (new : List ℕ) × (gives planning new ≡ firstFit k ds old)
     unfolding quick outcome said
     first-fit-plans = go fitted refl
@@ -70,18 +66,26 @@ module _ (k : Link) (ds old : List ℕ) where
         go (rows os) f = (onFront os old, goes-on (keeping refusing old) (sym (fine-room k ds (length old) g room)) (rw f))
         go (stuck j) f =
             absurd (first-fit-never-thirteen k ds old (Refused noOffset j) old
-            (goes-on (keeping refusing old) (sym (fine-room k ds (length old) g room)) (rw f)) light j refl)
+            (goes-on (keeping refusing old) (sym (fine-room k ds (length old) g room)) (rw f)) load j refl)
 
-  module _ (r : Planned) (new : List ℕ) (e : gives (said r) new ≡ oneSlot k ds old) (load : 2 * length ds - 1 ≤ k .period) where
-    -- a table in range for messages of one slot, with room for its offsets, gets a plan
-    pub is-planned : GoodTable k ds → k .size ≡ 1 → length ds ≤ length old → r ≡ Plan
+  -- for messages of one slot First Fit's number, P above (3n-2)T - n, is 2n-1 slots
+  one-slot-load : 2 * length ds - 1 ≤ k .period → GoodTable k ds → k .size ≡ 1 → FirstFitLoad k ds
+  one-slot-load h g s = rw (s, mul-one) (omega (arith, h, g .rows-low, g .period-low))
+
+  module _ (r : Planned) (new : List ℕ) (e : gives (said r) new ≡ oneSlot k ds old) where
+    -- where First Fit's load is light, a table in range with room for its offsets gets a plan
+    pub light-is-planned : FirstFitLoad k ds → GoodTable k ds → k .size ≡ 1 → length ds ≤ length old → r ≡ Plan
     unfolding said
-    is-planned g s room =
-        let w = first-fit-plans load g s room in
+    light-is-planned load g s room =
+        let w = first-fit-plans load g room in
         no-second k ds old r Plan new (w .0) e (sym (first-fit-same s (w .0) (w .1))) .0
 
-    pub never-thirteen : (j : ℕ) → r ≡ Refused noOffset j → ⊥
-    never-thirteen j c =
+    -- so 2n-1 slots are enough
+    pub is-planned : 2 * length ds - 1 ≤ k .period → GoodTable k ds → k .size ≡ 1 → length ds ≤ length old → r ≡ Plan
+    is-planned h g s = light-is-planned (one-slot-load h g s) g s
+
+    pub never-thirteen : 2 * length ds - 1 ≤ k .period → (j : ℕ) → r ≡ Refused noOffset j → ⊥
+    never-thirteen h j c =
         let w = thirteen-exactly k ds old r new e j .0 c in
-        let p = is-planned (w .table) (w .one-slot) (w .room) in
+        let p = is-planned h (w .table) (w .one-slot) (w .room) in
         never (cc)

@@ -1,22 +1,19 @@
 -- The code's test of a move, over lists of starts without the moved row, is the definition's: it serves. Assumes nothing.
 use mathlib.Core.Path.{_≡_, refl, sym, ap, _∙_}
-use mathlib.Core.Bool.{Bool, true, false, not, _&&_}
+use mathlib.Core.Bool.{Bool, true, not, _&&_}
 use mathlib.Core.List.{List}
 use mathlib.Core.Logic.{⊎-elim}
 use Prim.Native.Nat.{ℕ, _-_, _≤_, _<_}
 use native.Mathlib.Omega.{arith}
-use native.Mathlib.Nat.{mul-one}
 use lib.Dec.{eqb}
 use lib.ListN.{length, getD, set, length-set}
 use lib.Seq.{getD-take, length-take-le, getD-set-same, getD-set-other}
-use borrow.Author.Tests.{eqb-true, eqb-false, not-true, not-false}
-use Rattle.ground.specs.Least.{some}
+use borrow.Author.Tests.{eqb-true, eqb-false, not-false}
 use Rattle.ground.proofs.Bools.{and-both, and-parts, same-test, true-or-false}
-use Rattle.ground.proofs.Minimum.{none-has, some-none}
-use Rattle.link.specs.Rows.{Crossing, one, two, second, startAt, near, either, firstNear}
+use Rattle.link.specs.Rows.{Crossing, one, two, second, startAt, near}
 use Rattle.link.specs.Slots.{meets, apartb}
 use Rattle.link.proofs.Circle.{meets-apart}
-use Rattle.link.proofs.Meeting.{neither, none-hit, nobody-none, start-low}
+use Rattle.link.proofs.Meeting.{start-low}
 use Rattle.quick.specs.Ways.{openTo}
 use Rattle.oneslot.specs.Moves.{serves}
 use Rattle.oneslot.specs.Others.{lastOf, without, openBeside, fits, canMove}
@@ -87,7 +84,8 @@ module _
         meets-apart p l _ _ (start-low p two d x h) (start-low p two e y k) hl
         ∙ ap not (and-parts (apartb p l x y) (apartb p l (second p d x) (second p e y)) f .1)
 
-    off-beside : (d e x y : ℕ) → x < p → y < p → Off p l d x e y → (apartb p l x y && apartb p l (second p d x) (second p e y)) ≡ true
+    off-beside : (d e x y : ℕ) → x < p → y < p → Off p l d x e y
+        → (apartb p l x y && apartb p l (second p d x) (second p e y)) ≡ true
     off-beside d e x y h k f =
         and-both _ _ (not-false (apartb p l x y) (sym (meets-apart p l x y h k hl) ∙ f one))
         (not-false (apartb p l (second p d x) (second p e y))
@@ -100,8 +98,8 @@ module _
     can-move-serves clear x y h k =
         ap (λ (t : Bool). openTo p l e us ws 1 x && t) (open-more p l d us ws alike x (second p e x) y)
         ∙ same-test _ _
-        (λ f. let a = and-parts (openTo p l e us ws 1 x) (openTo p l d us ws 1 y && (apartb p l x y && apartb p l (second p e x) (second p d y))) f in
-        let b = and-parts (openTo p l d us ws 1 y) ((apartb p l x y && apartb p l (second p e x) (second p d y))) (a .1) in
+        (λ f. let a = and-parts (openTo p l e us ws 1 x) (openTo p l d us ws 1 y && apartBoth) f in
+        let b = and-parts (openTo p l d us ws 1 y) apartBoth (a .1) in
         parts-serve p l ds os hp clear i x y hi
         (record { moves = open-off e x h (a .0); comes = open-off d y k (b .0); both = beside-off e d x y h k (b .1) }))
         (λ f. let w = serves-parts p l ds os hp clear i x y hi f in
@@ -121,3 +119,6 @@ module _
 
         alike : length us ≡ length ws
         alike = as-many os refl ∙ sym (as-many vs same)
+
+        apartBoth : Bool
+        apartBoth = apartb p l x y && apartb p l (second p e x) (second p d y)

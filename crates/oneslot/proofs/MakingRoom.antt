@@ -2,14 +2,13 @@
 use mathlib.Core.Path.{_≡_, sym, _∙_}
 use mathlib.Core.Bool.{Bool, true, false, and-false}
 use mathlib.Core.List.{List, [], _∷_, _++_}
-use lib.ListN.{length, take, drop, set, length-append, length-drop}
+use lib.ListN.{length, take, set, length-append}
 use lib.Seq.{take-suc-set, take-append-seam}
 use native.Mathlib.Numerals.{add-one}
 use Prim.Native.Nat.{ℕ, _+_, _≤_, _<_}
 use native.Mathlib.Omega.{arith}
 use borrow.Author.Tests.{lt-ltb, le-ltb}
 use Rattle.ground.specs.Least.{least, leastFrom}
-use Rattle.ground.specs.Lent.{onFront}
 use Rattle.ground.proofs.Hunting.{Walked, from-before, from-least, walk-ends, walk-finds}
 use Rattle.ground.proofs.Minimum.{least-cong, some-none}
 use Rattle.link.specs.Rows.{second}

@@ -11,7 +11,7 @@ use lib.ListN.{length, getD, length-append, length-set}
 use borrow.Author.Tests.{ltb-true}
 use Rattle.ground.specs.Least.{least, some}
 use Rattle.ground.proofs.Bools.{clash, is-false}
-use Rattle.ground.proofs.Minimum.{least-at, least-cong, some-at, some-has, some-none, none-has}
+use Rattle.ground.proofs.Minimum.{least-at, least-cong, some-at, some-has, some-none, none-has, least-low}
 use Rattle.link.specs.Rows.{free}
 use Rattle.quick.specs.Plan.{Progress, rows, stuck, freeAt, place}
 use Rattle.oneslot.specs.Moves.{moved, serves, leastMove}
@@ -19,7 +19,7 @@ use Rattle.oneslot.specs.Plan.{made, orMoved, settle}
 use Rattle.oneslot.specs.Right.{Serves, LeastMove, NoneFree, Next, takes, moves}
 use Rattle.oneslot.specs.declared.Move.{Move}
 use Rattle.oneslot.specs.declared.Move.the-variants.{None, Row}
-use Rattle.oneslot.proofs.Choosing.{least-low, Chooses, chooses, takes as only-choice}
+use Rattle.oneslot.proofs.Choosing.{Chooses, chooses, only-choice}
 use Rattle.oneslot.proofs.SoFar.{each-free, free-each, rows-so-far, so-far-rows}
 
 -- a move makes one row more
@@ -52,7 +52,7 @@ module _ (p l : ℕ) (ds : List ℕ) where
   module _ (hp : 0 < p) where
     -- "so that all rows so far are clear": the test is the statement
     module _ (os : List ℕ) (i x y : ℕ) (more : length os < length ds) where
-      pub serves-so : i < length os → x < p → y < p → serves p l ds os i x y ≡ true → Serves p l ds os i x y
+      serves-so : i < length os → x < p → y < p → serves p l ds os i x y ≡ true → Serves p l ds os i x y
       unfolding serves
       serves-so a b c e =
           record {
@@ -64,7 +64,7 @@ module _ (p l : ℕ) (ds : List ℕ) where
                 (λ j q. each-free p l ds (moved os i x y) e j (omega (arith, length-moved os i x y)));
           }
 
-      pub so-serves : Serves p l ds os i x y → serves p l ds os i x y ≡ true
+      so-serves : Serves p l ds os i x y → serves p l ds os i x y ≡ true
       unfolding serves
       so-serves w =
           free-each p l ds (moved os i x y)

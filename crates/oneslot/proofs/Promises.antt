@@ -24,9 +24,9 @@ use Rattle.quick.proofs.Promises.{unsaid, again}
 use Rattle.oneslot.specs.Answer.{faults, oneSlot}
 use Rattle.oneslot.specs.Limits.{notOneSlot}
 use Rattle.oneslot.specs.Plan.{settled, allSettled}
-use Rattle.oneslot.specs.Right.{Reached, NoWay, GivenPlan, NoMove}
-use Rattle.oneslot.proofs.Accepted.{Good, good-one, fine-one, size-fault, no-thirteen}
-use Rattle.oneslot.proofs.Sound.{Says, all, some-row, says, reached-is, stuck-is, reached-clear}
+use Rattle.oneslot.specs.Right.{Reached, NoWay, GivenPlan, NotLetIn}
+use Rattle.oneslot.proofs.Accepted.{Good, good-one, fine-one, size-fault, fault-of-size, no-thirteen}
+use Rattle.oneslot.proofs.Sound.{Says, all, some-row, says, reached-is, stuck-is, reached-clear, reached-low}
 
 -- no second answer, and no second content of the list, meets the contract
 pub no-second : (k : Link) (ds old : List ℕ) (r s : Planned) (new other : List ℕ)
@@ -61,7 +61,7 @@ module _ (k : Link) (ds old : List ℕ) where
 
   module _ (r : Planned) (new : List ℕ) (e : gives (said r) new ≡ oneSlot k ds old) where
     -- rows that came in right, in a table that is let through, are the plan
-    pub right-plan : Good k ds (length old) → (os : List ℕ) → length os ≡ length ds → Reached (k .period) (spanOf k) ds os
+    right-plan : Good k ds (length old) → (os : List ℕ) → length os ≡ length ds → Reached (k .period) (spanOf k) ds os
         → (r ≡ Plan) × (new ≡ onFront os old)
     unfolding outcome said
     right-plan w os n s =
@@ -108,6 +108,7 @@ module _ (k : Link) (ds old : List ℕ) where
               room = w .enough;
               offsets = os;
               as-many = n;
+              inside = λ i h. reached-low (k .period) (spanOf k) ds s i (omega arith);
               right = s;
               written = ap list g;
               clear = right-clear (w .table .period-low) os n s;
@@ -118,37 +119,39 @@ module _ (k : Link) (ds old : List ℕ) where
             right-plan (record { table = w .table; enough = w .room; one-slot = w .one-slot }) (w .offsets) (w .as-many) (w .right) .0
 
     -- "Refuse with 13 exactly when no such single move exists"
-    pub thirteen-exactly : (j : ℕ) → (r ≡ Refused noOffset j) ↔ NoMove k ds old j
+    pub thirteen-exactly : (j : ℕ) → (r ≡ Refused noOffset j) ↔ NotLetIn k ds old j
     unfolding outcome said
     thirteen-exactly j = (λ c. there (heard (Refused noOffset j) c), back)
       where
-        there : Heard (Refused noOffset j) → NoMove k ds old j
+        there : Heard (Refused noOffset j) → NotLetIn k ds old j
         there (fault n p f g) = absurd (no-thirteen k ds (length old) n p f (sym (ap number g)))
         there (all-in w os n s g) = never (cc (ap verdict g))
         there (one-not w i h s g) =
             let same : j ≡ i = ap (λ (x : Answer). x .says .place) g in
             rw same (record { table = w .table; one-slot = w .one-slot; room = w .enough; row = h; stuck = s })
 
-        back : NoMove k ds old j → r ≡ Refused noOffset j
+        back : NotLetIn k ds old j → r ≡ Refused noOffset j
         back w =
             no-second k ds old r (Refused noOffset j) new old e
             (answers (record { table = w .table; enough = w .room; one-slot = w .one-slot })
             (stuck-is (k .period) (spanOf k) ds (w .table .period-low) j (length ds) (w .row) (omega arith) (w .stuck)) refl) .0
 
-    -- "25 .. if the size isn't 1", of a table in range with room for its offsets
-    pub twenty-five-exactly : GoodTable k ds → length ds ≤ length old → (r ≡ Refused notOneSlot 0) ↔ (k .size ≡ 1 → ⊥)
+    -- "25, after 12's place in the order, if the size isn't 1": everything else is in range, and there is room for the offsets
+    pub twenty-five-exactly : (r ≡ Refused notOneSlot 0) ↔ (GoodTable k ds × (length ds ≤ length old) × (k .size ≡ 1 → ⊥))
     unfolding oneSlot said
-    twenty-five-exactly t h = (λ c. there (heard (Refused notOneSlot 0) c), back)
+    twenty-five-exactly = (λ c. there (heard (Refused notOneSlot 0) c), back)
       where
-        there : Heard (Refused notOneSlot 0) → k .size ≡ 1 → ⊥
-        there (fault n p f g) s = never (cc (fine-one k ds (length old) (record { table = t; enough = h; one-slot = s })))
-        there (all-in w os n t g) s = never (cc (ap verdict g))
-        there (one-not w j h t g) s = let m : notOneSlot ≡ noOffset = ap number g in omega arith
+        there : Heard (Refused notOneSlot 0) → GoodTable k ds × (length ds ≤ length old) × (k .size ≡ 1 → ⊥)
+        there (fault n p f g) =
+            let same : notOneSlot ≡ n = ap number g in
+            fault-of-size k ds (length old) p (rw same f)
+        there (all-in w os n t g) = never (cc (ap verdict g))
+        there (one-not w j h t g) = let m : notOneSlot ≡ noOffset = ap number g in absurd (omega arith)
 
-        back : (k .size ≡ 1 → ⊥) → r ≡ Refused notOneSlot 0
-        back n =
+        back : GoodTable k ds × (length ds ≤ length old) × (k .size ≡ 1 → ⊥) → r ≡ Refused notOneSlot 0
+        back w =
             no-second k ds old r (Refused notOneSlot 0) new old e
-            (refused (keeping refusing old) _ (sym (size-fault k ds (length old) t h n))) .0
+            (refused (keeping refusing old) _ (sym (size-fault k ds (length old) (w .0) (w .1) (w .2)))) .0
 
     -- "on refusal nothing is written"
     pub refusal-keeps : (n q : ℕ) → r ≡ Refused n q → new ≡ old

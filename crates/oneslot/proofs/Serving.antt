@@ -25,7 +25,7 @@ use Rattle.oneslot.proofs.SoFar.{RowFree, each-free, free-each}
 abbrev pub Off : ℕ → ℕ → ℕ → ℕ → ℕ → ℕ → Type 0
 Off p l d a e b = (c : Crossing) → meets p l (startAt p c d a) (startAt p c e b) ≡ false
 
-pub off-sym : (p l d a e b : ℕ) → 0 < p → Off p l d a e b → Off p l e b d a
+off-sym : (p l d a e b : ℕ) → 0 < p → Off p l d a e b → Off p l e b d a
 off-sym p l d a e b h f c =
     is-false _ (λ g. let m = meets-slot p l (startAt p c e b) (startAt p c d a) g in
     clash (meets-true p l (startAt p c d a) (startAt p c e b) h (m .0, m .2, m .1)) (f c))
@@ -36,11 +36,11 @@ OffRows p l ds os a b = Off p l (getD ds a 0) (getD os a 0) (getD ds b 0) (getD 
 
 module _ (p l : ℕ) (ds os : List ℕ) where
   -- a row is free exactly where it meets no earlier one
-  pub free-off : (b : ℕ) → RowFree p l ds os b → (a : ℕ) → a < b → OffRows p l ds os a b
+  free-off : (b : ℕ) → RowFree p l ds os b → (a : ℕ) → a < b → OffRows p l ds os a b
   unfolding hits start
   free-off b f a h c = free-meets-none p l ds os b (getD ds b 0) (getD os b 0) f c a h
 
-  pub off-free : (b : ℕ) → ((a : ℕ) → a < b → OffRows p l ds os a b) → RowFree p l ds os b
+  off-free : (b : ℕ) → ((a : ℕ) → a < b → OffRows p l ds os a b) → RowFree p l ds os b
   unfolding free hits start
   off-free b f = ap not (some-none _ b (λ a h. neither _ a (f a h one) (f a h two)))
 

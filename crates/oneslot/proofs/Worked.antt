@@ -21,7 +21,7 @@ use Rattle.quick.specs.declared.Planned.the-variants.{Plan, Refused}
 use Rattle.oneslot.specs.Answer.{sizeFaults, oneSlot}
 use Rattle.oneslot.specs.Moves.{allClear, serves, opens, moveOf, givesWay, leastMove}
 use Rattle.oneslot.specs.Plan.{orMoved, settle, settled}
-use Rattle.oneslot.specs.Right.{NoneFree, Next, GivenPlan, NoMove, OthersStay}
+use Rattle.oneslot.specs.Right.{NoneFree, Next, GivenPlan, NotLetIn, OthersStay}
 use Rattle.oneslot.proofs.FirstFit.{first-fit-same, is-planned, never-thirteen}
 use Rattle.oneslot.proofs.Moving.{others-stay, all-stay, one-moves}
 use Rattle.oneslot.proofs.NextRow.{is-next}
@@ -44,20 +44,20 @@ plan₁ = 2 ∷ 1 ∷ 0 ∷ 3 ∷ 9 ∷ []
 
 -- 4, 1, (0 2 1 1): First Fit gives 13 at row 2
 pub let-in : gives (said Plan) plan₁ ≡ oneSlot (link 4 1) ds₁ old
-unfolding said oneSlot outcome settled settle orMoved place freeAt allClear blocked serves opens moveOf givesWay leastMove free hits first andThen
-    linkFaults rowFaults roomFaults sizeFaults start outside either second uses meets least oneMore
+unfolding said oneSlot outcome settled settle orMoved place freeAt allClear blocked serves opens moveOf givesWay leastMove free hits first
+    andThen linkFaults rowFaults roomFaults sizeFaults start outside either second uses meets least oneMore
 let-in = refl
 
 -- 2, 1, (0 1): wherever the two rows stand, they meet in one of the crossings
 pub gives-up : gives (said (Refused 13 1)) old ≡ oneSlot (link 2 1) ds₂ old
-unfolding said oneSlot outcome settled settle orMoved place freeAt allClear blocked serves opens moveOf givesWay leastMove free hits first andThen
-    linkFaults rowFaults roomFaults sizeFaults start outside either second uses meets least oneMore
+unfolding said oneSlot outcome settled settle orMoved place freeAt allClear blocked serves opens moveOf givesWay leastMove free hits first
+    andThen linkFaults rowFaults roomFaults sizeFaults start outside either second uses meets least oneMore
 gives-up = refl
 
 -- 4, 2, (0 1): the size isn't 1
 pub two-slots : gives (said (Refused 25 0)) old ≡ oneSlot (link 4 2) ds₂ old
-unfolding said oneSlot outcome settled settle orMoved place freeAt allClear blocked serves opens moveOf givesWay leastMove free hits first andThen
-    linkFaults rowFaults roomFaults sizeFaults start outside either second uses meets least oneMore
+unfolding said oneSlot outcome settled settle orMoved place freeAt allClear blocked serves opens moveOf givesWay leastMove free hits first
+    andThen linkFaults rowFaults roomFaults sizeFaults start outside either second uses meets least oneMore
 two-slots = refl
 
 -- 3, 1, (0 1): First Fit has a plan
@@ -77,7 +77,8 @@ abbrev four-in : List ℕ
 four-in = 2 ∷ 1 ∷ 0 ∷ 3 ∷ []
 
 pub gives-way : Next 4 1 ds₁ two-in three-in
-unfolding settle orMoved place freeAt allClear blocked serves opens moveOf givesWay leastMove free hits start either second uses meets least oneMore
+unfolding settle orMoved place freeAt allClear blocked serves opens moveOf givesWay leastMove free hits start either second uses meets least
+    oneMore
 gives-way = is-next 4 1 ds₁ (omega arith) two-in (omega arith) three-in refl
 
 pub at-most-one : (i : ℕ) × OthersStay two-in three-in i
@@ -92,7 +93,8 @@ just-one = one-moves 4 1 ds₁ two-in (omega arith) none-free gives-way
 
 -- the offset 3 is free for row 3, and the others stay
 pub comes-in : Next 4 1 ds₁ three-in four-in
-unfolding settle orMoved place freeAt allClear blocked serves opens moveOf givesWay leastMove free hits start either second uses meets least oneMore
+unfolding settle orMoved place freeAt allClear blocked serves opens moveOf givesWay leastMove free hits start either second uses meets least
+    oneMore
 comes-in = is-next 4 1 ds₁ (omega arith) three-in (omega arith) four-in refl
 
 pub no-one : (j : ℕ) → j < 3 → getD four-in j 0 ≡ getD three-in j 0
@@ -109,7 +111,7 @@ only-plan r new e = no-second (link 4 1) ds₁ old r Plan new plan₁ e let-in
 pub right-rows-are-planned : (r : Planned) → gives (said r) plan₁ ≡ oneSlot (link 4 1) ds₁ old → r ≡ Plan
 right-rows-are-planned r e = plan-is-right (link 4 1) ds₁ old r plan₁ e .1 right
 
-pub no-move : NoMove (link 2 1) ds₂ old 1
+pub no-move : NotLetIn (link 2 1) ds₂ old 1
 no-move = thirteen-exactly (link 2 1) ds₂ old (Refused 13 1) old gives-up 1 .0 refl
 
 pub is-refused : (r : Planned) (new : List ℕ) → gives (said r) new ≡ oneSlot (link 2 1) ds₂ old → r ≡ Refused 13 1
@@ -133,11 +135,11 @@ in-range p t h =
 
 pub twenty-five : (r : Planned) (new : List ℕ) → gives (said r) new ≡ oneSlot (link 4 2) ds₂ old → r ≡ Refused 25 0
 twenty-five r new e =
-    twenty-five-exactly (link 4 2) ds₂ old r new e (in-range 4 2 (omega arith)) (omega arith) .1 (λ s. omega arith)
+    twenty-five-exactly (link 4 2) ds₂ old r new e .1 (in-range 4 2 (omega arith), omega arith, λ s. omega arith)
 
 pub never-twenty-five : (r : Planned) (new : List ℕ) → gives (said r) new ≡ oneSlot (link 4 1) ds₂ old → r ≡ Refused 25 0 → ⊥
 never-twenty-five r new e c =
-    twenty-five-exactly (link 4 1) ds₂ old r new e (in-range 4 1 (omega arith)) (omega arith) .0 c refl
+    twenty-five-exactly (link 4 1) ds₂ old r new e .0 c .2 refl
 
 pub same-plan : oneSlot (link 3 1) ds₂ old ≡ gives planning (0 ∷ 1 ∷ 9 ∷ 9 ∷ 9 ∷ [])
 same-plan = first-fit-same (link 3 1) ds₂ old refl (0 ∷ 1 ∷ 9 ∷ 9 ∷ 9 ∷ []) fits

@@ -70,12 +70,13 @@ pub record GivenPlan (k : Link) (ds old new : List ℕ) : Type 0 where
   pub room : length ds ≤ length old
   pub offsets : List ℕ
   pub as-many : length offsets ≡ length ds
+  pub inside : (i : ℕ) → i < length ds → getD offsets i 0 < k .period
   pub right : Reached (k .period) (spanOf k) ds offsets
   pub written : new ≡ onFront offsets old
   pub clear : Clear (k .period) (spanOf k) ds offsets
 
 -- a row that cannot come in, in a table in range
-pub record NoMove (k : Link) (ds old : List ℕ) (j : ℕ) : Type 0 where
+pub record NotLetIn (k : Link) (ds old : List ℕ) (j : ℕ) : Type 0 where
   pub table : GoodTable k ds
   pub one-slot : k .size ≡ 1
   pub room : length ds ≤ length old

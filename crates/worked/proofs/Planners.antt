@@ -21,7 +21,6 @@ use Rattle.quick.proofs.Promises.{plan-is-right, right-clear}
 use Rattle.quick.proofs.Worked.{link, ds₁, old, plan₁, fits, right, multiples as by-multiples}
 use Rattle.oneslot.specs.Answer.{oneSlot}
 use Rattle.oneslot.proofs.Promises.{plan-is-right as one-slot-right}
-use Rattle.oneslot.proofs.Sound.{reached-low}
 use Rattle.oneslot.proofs.Worked.{let-in}
 use Rattle.search.specs.Answer.{Answers, ClearChoice}
 use Rattle.search.specs.declared.Answer.the-variants.{None}
@@ -61,9 +60,7 @@ module _ (k : Link) (ds old new : List ℕ) where
       → Answers k ds budget list (None t) left → ⊥
   one-slot-never-none e =
       let g = one-slot-right k ds old Plan new e .0 refl in
-      let low = reached-low (k .period) (spanOf k) ds (g .right) in
-      clear-plan-never-none k ds (g .offsets)
-      (record { as-many = g .as-many; inside = λ i h. low i (omega (arith, g .as-many)); clear = g .clear })
+      clear-plan-never-none k ds (g .offsets) (record { as-many = g .as-many; inside = g .inside; clear = g .clear })
 
 -- nor is it ever said of a light load
 pub light-never-none : (k : Link) (ds : List ℕ) → GoodTable k ds → LightLoad k ds

@@ -61,7 +61,8 @@ loop-again c =
     let l = c .before .before .before .before .loop in
     let at-least = c .before .before .before .before .before .before .before .first-free .ensures in
     let at-beside = c .before .before .beside in
-    let none = not-here _ _ _ _ _ _ (u .pre .1 .0) (l .to) (l .inv) (omega arith) _ _ at-least (at-beside .ensures) (c .before .if2 .left) in
+    let none = not-here _ _ _ _ _ _ (u .pre .1 .0) (l .to) (l .inv) (omega arith) _ _ at-least (at-beside .ensures)
+    (c .before .if2 .left) in
     walk-goes-on _ _ _ (shut-room _ _ _ _ _ _ (u .pre .1 .0)) (l .to) _ (l .inv) none (c .first-free3 .ensures)
 
 returns-3 : tie.Need-returns-3 Inv-loop μ-loop
