@@ -6,7 +6,7 @@ use Rattle.ground.specs.Judging.{first, outside, andThen}
 use Rattle.ground.specs.Least.{oneMore, least}
 use Rattle.ground.specs.Series.{from}
 use Rattle.link.specs.Refusal.{linkFaults, rowFaults, roomFaults, offsetFaults}
-use Rattle.link.specs.Rows.{second, start, hits, either, free, firstHit, metAt}
+use Rattle.link.specs.Rows.{second, start, hits, either, free, blocked, firstHit, metAt}
 use Rattle.link.specs.Slots.{uses, after, meets}
 use Rattle.checker.specs.Answer as checker
 use Rattle.checker.specs.Judging.{clearFaults}
@@ -27,8 +27,8 @@ use Rattle.worked.specs.Tables.{table}
 pub as-the-page-says : map (λ c. c .computed) table ≡ map (λ c. c .page) table
 unfolding table
     first outside andThen linkFaults rowFaults roomFaults exactFaults offsetFaults clearFaults oneMore least count countIn from
-    second start hits either free firstHit metAt uses meets
-    checker.metBy checker.blocked checker.named checker.answer
+    second start hits either free blocked firstHit metAt uses meets
+    checker.metBy checker.named checker.answer
     quick.outcome quick.quick quickly.freeAt quickly.place quickly.placed
     search.within search.outcome search.exactly
     builds.order builds.orderSteps builds.behind builds.sequences builds.leads builds.allGood builds.isWhole builds.firstOf
