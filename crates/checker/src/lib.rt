@@ -1,4 +1,6 @@
 // The checker of plans: clear exactly when no two messages meet on either crossing.
+#![tactic(auto)]
+
 ghost use Rattle.std.specs.Prelude.{◌≡◌};
 ghost use Rattle.ground.specs.Judging.{first};
 ghost use Rattle.link.specs.Range.{InRange};

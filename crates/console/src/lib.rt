@@ -1,4 +1,6 @@
 // From the bytes of a text table to the bytes that the program prints.
+#![tactic(auto)]
+
 mod put;
 
 ghost use Rattle.std.specs.Prelude.{◌+◌, ◌*◌, ◌≤◌, length};

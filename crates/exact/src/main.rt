@@ -1,4 +1,6 @@
 // The exact planner as a program: a text table on standard input, its plan on standard output.
+#![tactic(auto)]
+
 use libc::{STDIN_FILENO, STDOUT_FILENO};
 
 fn main() {

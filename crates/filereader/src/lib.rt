@@ -1,4 +1,6 @@
 // The file reader: it keeps the caller's bytes and its own place in them, a thin struct over the covered steps of `planfile`.
+#![tactic(auto)]
+
 ghost use Rattle.std.specs.Prelude.{◌≡◌, length};
 ghost use Rattle.ground.specs.Protocol.{gives};
 ghost use Rattle.planfile.specs.Format.{tag};

@@ -1,4 +1,6 @@
 // The ground floor: what judging says, words that bytes begin with, and lent lists that are filled. Nothing here is about links.
+#![tactic(auto)]
+
 ghost use Rattle.std.specs.Prelude.{◌≡◌, ◌≤◌, length};
 ghost use Rattle.ground.specs.Words.{begins as beginsOf};
 ghost use Rattle.ground.specs.Lent.{on_front};

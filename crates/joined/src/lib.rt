@@ -1,4 +1,6 @@
 // Texts joined end to end: each is read and planned by itself, in order, up to the first that has a fault.
+#![tactic(auto)]
+
 pub mod limits;
 
 ghost use Rattle.std.specs.Prelude.{◌≡◌, cond, [], ◌∷◌, ◌≤◌, ◌*◌, ltb, length};

@@ -1,4 +1,6 @@
 // A shared link: its rows, the test of two starts, and the judging of values.
+#![tactic(auto)]
+
 pub mod judge;
 pub mod limits;
 
@@ -6,7 +8,7 @@ ghost use Rattle.std.specs.Prelude.{◌≡◌, ◌<◌, ◌≤◌, length};
 ghost use Rattle.link.specs.Slots.{apartb, gap};
 ghost use Rattle.link.specs.Rows.{span_of, second, first_near};
 
-#[derive(Drop)]
+#[derive(Clone, Copy)]
 pub struct Link {
     pub period: u32,
     pub size: u32,

@@ -1,4 +1,6 @@
 // Messages of one slot, with a move: where a row finds no free offset, one row already placed may give way.
+#![tactic(auto)]
+
 ghost use Rattle.std.specs.Prelude.{◌≡◌, ◌≤◌, ◌<◌, length};
 ghost use Rattle.ground.specs.Judging.{first};
 ghost use Rattle.ground.specs.Least.{least_from};

@@ -1,4 +1,6 @@
 // The plan file: a plan written to a file reads back the same, and each accepted file is the only one for its plan.
+#![tactic(auto)]
+
 mod causes;
 mod groups;
 pub mod reader;

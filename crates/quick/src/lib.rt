@@ -1,4 +1,6 @@
 // First Fit and Meta-Offset: one planner over the offsets 0, step, .., (count-1) step.
+#![tactic(auto)]
+
 ghost use Rattle.std.specs.Prelude.{◌≡◌, ◌≤◌, ◌<◌, length, set};
 ghost use Rattle.link.specs.Limits.{max_rows};
 ghost use Rattle.link.specs.Rows.{second};

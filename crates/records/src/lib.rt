@@ -1,5 +1,7 @@
 // The checker over a lent list of records: a walk that hands one record after the other to the pair test, and answers what `check`
 // answers on the list of their delays and the list of their offsets.
+#![tactic(auto)]
+
 ghost use Rattle.std.specs.Prelude.{◌≡◌, List, ◌+◌, ◌<◌, length};
 ghost use Rattle.ground.specs.Least.{one_more};
 ghost use Rattle.link.specs.Limits.{max_rows};

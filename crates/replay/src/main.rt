@@ -1,4 +1,6 @@
 // Runs the oracle's cases through the library: a case a line on standard input, its answer and its buffers a line on standard output.
+#![tactic(auto)]
+
 mod cases;
 mod show;
 

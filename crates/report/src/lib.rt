@@ -1,4 +1,6 @@
 // The stretch report: the free slots of each crossing of a clear plan, and the stretches that they form.
+#![tactic(auto)]
+
 ghost use Rattle.std.specs.Prelude.{◌≡◌, ℕ, ◌<◌, max, min, length};
 ghost use Rattle.link.specs.Range.{InRange};
 ghost use Rattle.link.specs.Rows.{Clear};

@@ -1,4 +1,6 @@
 // The entry points for C and Rust: numbers and slices in, an answer's numbers out, in the paper's order.
+#![tactic(auto)]
+
 mod fill;
 
 ghost use Rattle.std.specs.Prelude.{◌≡◌};

@@ -1,4 +1,6 @@
 // The exact planner: the offsets of the least whole build, or that there is none.
+#![tactic(auto)]
+
 pub mod limits;
 
 ghost use Rattle.std.specs.Prelude.{◌≡◌, true, ℕ, ◌<◌, ◌≤◌, ◌*◌, ◌%◌, length, get_or};

@@ -1,4 +1,6 @@
 // The reader of the text table: any bytes end in a table, or in a numbered refusal at its byte.
+#![tactic(auto)]
+
 mod bytes;
 mod decimal;
 mod judge;

@@ -1,1 +1,2 @@
 // The rules that proofs by hand share: in proofs/, and no code.
+#![tactic(auto)]

@@ -1,0 +1,11 @@
+-- The two comparisons of `apartb`, on the distance of the starts.
+use mathlib.Core.Path.{sym}
+use native.Mathlib.Omega.{arith}
+use Rattle.link.proofs.Circle.{apart_near, apart_when}
+use Rattle.link.proofs.apart.Goals as goal
+
+pub returns-then-d-l : goal.returns-then-d-l
+returns-then-d-l c = sym (apart_near _ _ _ _ (omega arith))
+
+pub returns : goal.returns
+returns c = apart_when _ _ c.args.a c.args.b c.distance-d.result (omega arith) c.distance-d.ensures
