@@ -23,6 +23,7 @@ LEMMAS = (
     "second-part count-part table-lines"
 ).split()
 OTHERS = {"one-slot": "is_one_slot", "wrong-tag": "tag_wrong"}
+OTHERS.update({f"getD-{n}": f"get_or_{n}" for n in ("behind", "listed", "mapped", "ones")})
 IN_CRATE = {
     "checker/proofs": {"met_by": "met_by_lem"},
     "ground/proofs": {"one_more": "one_more_lem"},

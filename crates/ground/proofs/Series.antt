@@ -97,17 +97,17 @@ module _ {A : Type 0} (f : ℕ → A) where
   length_ones a zero = refl
   length_ones a (suc m) = ap suc (length_ones (suc a) m)
 
-  get_d_ones : (d : A) (a m i : ℕ) → i < m → get_or (from (λ j. f j ∷ []) a m) i d ≡ f (a + i)
+  get_or_ones : (d : A) (a m i : ℕ) → i < m → get_or (from (λ j. f j ∷ []) a m) i d ≡ f (a + i)
   unfolding from
-  get_d_ones d a zero i h = absurd (omega arith)
-  get_d_ones d a (suc m) zero h = let e : a + 0 ≡ a = omega arith in rw e
-  get_d_ones d a (suc m) (suc i) h = let e : a + suc i ≡ suc a + i = omega arith in rw e (get_d_ones d (suc a) m i (omega arith))
+  get_or_ones d a zero i h = absurd (omega arith)
+  get_or_ones d a (suc m) zero h = let e : a + 0 ≡ a = omega arith in rw e
+  get_or_ones d a (suc m) (suc i) h = let e : a + suc i ≡ suc a + i = omega arith in rw e (get_or_ones d (suc a) m i (omega arith))
 
   pub length_listed : (m : ℕ) → length (listed f m) ≡ m
   length_listed m = length_ones 0 m
 
-  pub get_d_listed : (d : A) (m i : ℕ) → i < m → get_or (listed f m) i d ≡ f i
-  get_d_listed d m i h = get_d_ones d 0 m i h ∙ ap f (zero-add i)
+  pub get_or_listed : (d : A) (m i : ℕ) → i < m → get_or (listed f m) i d ≡ f i
+  get_or_listed d m i h = get_or_ones d 0 m i h ∙ ap f (zero-add i)
 
 module _ {A : Type 0} (f : ℕ → List A) where
   pub in_from : (a m i : ℕ) (x : A) → a ≤ i → i < a + m → Memᴰ x (f i) → Memᴰ x (from f a m)

@@ -9,7 +9,7 @@ use native.Mathlib.Nat.{mod-mod, mod-add-mod}
 use lib.Dec.{ltb}
 use lib.ListN.{length, get_or, length-map}
 use Rattle.ground.proofs.Bools.{same_test}
-use Rattle.ground.proofs.Elements.{get_d_mapped}
+use Rattle.ground.proofs.Elements.{get_or_mapped}
 use Rattle.ground.proofs.Minimum.{least_cong}
 use Rattle.ground.proofs.Remainders.{same_on, same_back, back_and_on}
 use Rattle.link.specs.Slots.{uses, after, meets, Uses, Meet}
@@ -80,7 +80,7 @@ module _ (p r : ℕ) (some : 0 < p) where
 
   module _ (ds os : List ℕ) where
     moved_at : (i : ℕ) → i < length os → get_or (moved_on p r os) i 0 ≡ on (get_or os i 0)
-    moved_at i l = get_d_mapped on os 0 0 i l
+    moved_at i l = get_or_mapped on os 0 0 i l
 
     pub start_moved : (c : Crossing) (i : ℕ) → i < length os → start p ds (moved_on p r os) c i ≡ on (start p ds os c i)
     unfolding start
@@ -106,7 +106,7 @@ good_moved k ds os r g =
       table = g.table;
       as_many = n ∙ g.as_many;
       offsets = λ i l.
-          let e = get_d_mapped (after k.period r) os 0 0 i (omega arith) in
+          let e = get_or_mapped (after k.period r) os 0 0 i (omega arith) in
           let low = after_low k.period g.table.period_low r (get_or os i 0) in
           omega (arith, e);
     }

@@ -13,7 +13,7 @@ use Rattle.ground.specs.Protocol.{gives}
 use Rattle.ground.specs.Series.{listed}
 use Rattle.ground.proofs.Bools.{lt_or_ge}
 use Rattle.ground.proofs.Minimum.{some_at, some_none}
-use Rattle.ground.proofs.Series.{length_listed, get_d_listed}
+use Rattle.ground.proofs.Series.{length_listed, get_or_listed}
 use Rattle.link.specs.Limits.{max_period, max_rows, no_offset}
 use Rattle.link.specs.Range.{GoodTable}
 use Rattle.link.specs.Rows.{one, two, second, start, hits, either, free}
@@ -53,13 +53,13 @@ module _ (d : ℕ → ℕ) (p t u : ℕ) (w : Spread d p t u) where
   rows_of = length-append (listed d u) ((p - u * t) ∷ []) ∙ ap (λ (n : ℕ). n + 1) (length_listed d u)
 
   delay : (i : ℕ) → i < u → get_or ds i 0 ≡ d i
-  delay i h = get_or-append (listed d u) ((p - u * t) ∷ []) 0 i (omega (arith, length_listed d u)) ∙ get_d_listed d 0 u i h
+  delay i h = get_or-append (listed d u) ((p - u * t) ∷ []) 0 i (omega (arith, length_listed d u)) ∙ get_or_listed d 0 u i h
 
   last : get_or ds u 0 ≡ p - u * t
   last = get_or_at (listed d u) (p - u * t) [] 0 u (length_listed d u)
 
   stands : (i : ℕ) → i < u → get_or os i 0 ≡ i * t
-  stands = get_d_listed (λ i. i * t) 0 u
+  stands = get_or_listed (λ i. i * t) 0 u
 
   second_of : (i : ℕ) → i < u → second p (get_or ds i 0) (i * t) ≡ i * t + d i
   unfolding second

@@ -7,7 +7,7 @@ use native.Mathlib.Omega.{arith}
 use lib.ListN.{length, get_or, length-append, get_or-append}
 use lib.Seq.{get_or_at}
 use Rattle.ground.proofs.Bools.{lt_or_ge, never}
-use Rattle.ground.proofs.Elements.{get_d_behind}
+use Rattle.ground.proofs.Elements.{get_or_behind}
 use Rattle.link.specs.Range.{GoodTable}
 use Rattle.link.specs.declared.Link.{Link}
 use Rattle.text.specs.Bytes.{newline}
@@ -42,7 +42,7 @@ last_not_digits : (n : ℕ) (l : List ℕ) → Digits (l ++ last_line n) → ⊥
 unfolding last_line
 last_not_digits n l d =
     let w = digit (get_or (l ++ last_line n) (length l) 0) (d (length l) (omega (arith, length-append l (last_line n)))) in
-    omega (arith, get_d_behind l (last_line n) (length l) 0 0 (omega arith))
+    omega (arith, get_or_behind l (last_line n) (length l) 0 0 (omega arith))
 
 -- a last line tells its number
 one_count : (n m : ℕ) → n < 10 ^ 8 → m < 10 ^ 8 → last_line n ≡ last_line m → n ≡ m
@@ -133,7 +133,7 @@ module _ (ms : List (List ℕ)) (n' : ℕ) (s' : Tabular ms n') (rest : List ℕ
   row_and_last l m ps n s z t =
       let many = many l m [] ps n s z t in
       let few = rows_joined l m [] ps n s z t (suc n) (omega arith) (λ i g b. omega arith) in
-      let last : m ≡ last_line (suc n) = sym (get_d_behind ps (l ∷ m ∷ []) (suc (suc (suc n))) 1 [] (omega arith)) ∙ s.last in
+      let last : m ≡ last_line (suc n) = sym (get_or_behind ps (l ∷ m ∷ []) (suc (suc (suc n))) 1 [] (omega arith)) ∙ s.last in
       let e : get_or ms (suc (suc n)) [] ≡ l ++ last_line (suc n) = sym (same_there l m [] ps n s z t (omega arith))
       ∙ get_or_at ps (l ++ m) [] [] (suc (suc n)) (omega arith) ∙ ap (λ (r : List ℕ). l ++ r) last in
       last_not_digits (suc n) l (subst Digits e (s'.row n few).digits)

@@ -11,7 +11,7 @@ use Rattle.ground.specs.Lent.{on_front}
 use Rattle.ground.specs.Protocol.{gives, keeping}
 use Rattle.ground.specs.declared.Judged.TheVariants.{Fine}
 use Rattle.ground.proofs.Answers.{goes_on}
-use Rattle.ground.proofs.Elements.{get_d_mapped}
+use Rattle.ground.proofs.Elements.{get_or_mapped}
 use Rattle.ground.proofs.Faults.{pass, fine, front_pass, front_fine}
 use Rattle.link.specs.Limits.{max_delay, bad_length}
 use Rattle.link.specs.Range.{GoodTable}
@@ -82,7 +82,7 @@ module _ (k : Link) (ds : List ℕ) (g : GoodTable k ds) where
   pub row_there : (i : ℕ) → i < length ds → get_or (table_lines k ds) (suc (suc i)) [] ≡ digits (get_or ds i 0)
   row_there i h =
       get_or-append (map digits ds) (last_line (length ds) ∷ []) [] i (omega (arith, length-map ds digits))
-      ∙ get_d_mapped digits ds 0 [] i h
+      ∙ get_or_mapped digits ds 0 [] i h
 
   pub last_there : get_or (table_lines k ds) (suc (suc (length ds))) [] ≡ last_line (length ds)
   last_there = get_or_at (map digits ds) (last_line (length ds)) [] [] (length ds) (length-map ds digits)

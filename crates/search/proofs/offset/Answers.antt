@@ -1,0 +1,45 @@
+-- In crossing 1 the row starts right after the other; in crossing 2 the offset is that start turned back by the delay.
+use mathlib.Core.Path.{sym, ◌∙◌}
+use Prim.Native.Nat.{◌*◌, ◌/◌, ◌%◌}
+use native.Mathlib.Omega.{arith}
+use lib.ListN.{get_or}
+use Rattle.link.specs.Limits.{max_rows}
+use Rattle.link.proofs.Meeting.{second_low}
+use Rattle.search.proofs.Numbers.{names_at, puts_one, puts_two}
+use Rattle.search.proofs.offset.Goals as goal
+
+pub turn-requires : goal.turn-requires
+turn-requires c =
+    let t = c.requires.0 in
+    let h = (names_at _ _ _ c.args.k c.requires.2).beside_placed in
+    omega (arith, t)
+
+pub returns-then-k-eq0 : goal.returns-then-k-eq0
+returns-then-k-eq0 c = (c.turn.ensures.0 ∙ sym (puts_one _ _ _ _ _ c.if-k-eq0.true), omega arith)
+
+pub turn-requires-2 : goal.turn-requires-2
+turn-requires-2 c =
+    let t = c.requires.0 in
+    let w = names_at _ _ _ c.args.k c.requires.2 in
+    let q = c.requires.1.seconds (c.args.k / 2 % max_rows) w.beside_low w.beside_placed in
+    let h = second_low c.args.p (get_or c.args.delays.now (c.args.k / 2 % max_rows) 0)
+    (get_or c.args.firsts.now (c.args.k / 2 % max_rows) 0) (omega (arith, t)) in
+    omega (arith, t)
+
+pub bounds-delays-k : goal.bounds-delays-k
+bounds-delays-k c =
+    let t = c.requires.0 in
+    let w = (names_at _ _ _ c.args.k c.requires.2).row_low in
+    omega (arith, t)
+
+pub overflow_sub-p : goal.overflow_sub-p
+overflow_sub-p c = omega (arith, c.requires.0.delays (c.args.k / (2 * max_rows)))
+
+pub returns : goal.returns
+returns c =
+    let w = names_at _ _ _ c.args.k c.requires.2 in
+    let q = c.requires.1.seconds (c.args.k / 2 % max_rows) w.beside_low w.beside_placed in (
+      puts_two _ _ _ _ c.args.k c.if-k-eq0.false (c.requires.0.delays _) _ _ _ q c.turn-2.ensures.0
+          c.turn-3.ensures.0,
+      omega arith,
+    )

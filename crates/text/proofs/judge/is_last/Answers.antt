@@ -1,0 +1,7 @@
+-- `end ` stands in front.
+use Rattle.text.specs.Faults.{is_last}
+use Rattle.text.proofs.judge.is_last.Goals as goal
+
+pub returns : goal.returns
+unfolding is_last
+returns c = c.begins.ensures

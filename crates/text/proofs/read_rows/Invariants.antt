@@ -1,0 +1,12 @@
+-- Invariant: the lines before this one are right, and none of them is the last; the delays of the rows are kept, and the next line begins
+-- at `at`. At most 64 rows come before the last line.
+use Prim.Native.Nat.{◌+◌, ◌-◌}
+use Rattle.link.specs.Limits.{max_rows}
+use Rattle.text.proofs.Walk.{Walked}
+use Rattle.text.proofs.read_rows.Given as goal
+
+abbrev pub invariant-loop-number : goal.invariant-loop-number
+invariant-loop-number l = Walked l.text l.kept l.at l.rows
+
+abbrev pub decreases-loop-number : goal.decreases-loop-number
+decreases-loop-number l = max_rows + 1 - l.rows
