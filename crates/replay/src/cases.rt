@@ -1,6 +1,6 @@
 // Reading a case: decimal numbers with a space between them, and lists as their length and elements.
 ghost use Rattle.std.specs.Prelude.{◌≤◌};
-ghost use Rattle.io.specs.Counts.{IsPrefixLen};
+ghost use Rattle.replay.specs.Counts.{IsPrefixLen};
 
 #[derive(Drop)]
 pub struct Read {

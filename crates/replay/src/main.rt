@@ -5,40 +5,56 @@ mod cases;
 mod show;
 
 ghost use Rattle.std.specs.Prelude.{◌≤◌, length};
-ghost use Rattle.io.specs.Counts.{IsPrefixLen};
+ghost use Rattle.replay.specs.Counts.{IsPrefixLen};
 
-use libc::STDIN_FILENO;
+use std::io::{Input, Read};
+
+const BLOCK: usize = 65536;
 
 // 4 megabytes of cases.
 const MOST_BLOCKS: usize = 64;
 
-fn main() {
-    let mut space = io::large_buffer();
+fn main(rt: HostRuntime) {
+    let mut space = [0u8; BLOCK];
     let mut held: usize = 0;
     let mut turn: usize = 0;
     while turn < MOST_BLOCKS {
-        held = block(&mut space, held);
+        held = block(&rt, &mut space, held);
         turn += 1;
     }
 }
 
 // Fills the room behind the bytes that are held, runs the whole lines, and moves what is left to the front.
-fn block(space: &mut [u8], held: usize) -> usize
+fn block(rt: &(impl Input + Print), space: &mut [u8], held: usize) -> usize
     requires { held ≤ length space.old }
     ensures { result ≤ length space.old }
 {
-    let end = refill(space, held);
-    let rest = run(&space[..end]);
+    let end = refill(rt, space, held);
+    let rest = run(rt, &space[..end]);
     shift(space, rest, end);
     end - rest
 }
 
 // Reads on behind the bytes that are held, and answers how many there are now.
-fn refill(space: &mut [u8], held: usize) -> usize
+fn refill(rt: &impl Input, space: &mut [u8], held: usize) -> usize
     requires { held ≤ length space.old }
     ensures { IsPrefixLen result space.new }
 {
-    held + io::read_full(STDIN_FILENO, &mut space[held..])
+    held + read_full(&mut rt.reader(), &mut space[held..])
+}
+
+// Reads until the buffer is full, the input ends or a read fails, and answers how many bytes there are.
+fn read_full(input: &mut impl Read, buf: &mut [u8]) -> usize
+    ensures { IsPrefixLen result buf.new }
+{
+    let mut done = 0;
+    while done < buf.len() {
+        match input.read(&mut buf[done..]) {
+            Ok(0) | Err(_) => break,
+            Ok(n) => done += n,
+        }
+    }
+    done
 }
 
 // Moves the bytes from `from` to `end` to the front.
@@ -53,7 +69,7 @@ fn shift(space: &mut [u8], from: usize, end: usize)
 }
 
 // Runs each whole line, and answers where the unfinished one begins.
-fn run(text: &[u8]) -> usize
+fn run(rt: &impl Print, text: &[u8]) -> usize
     ensures { result ≤ length text.now }
 {
     let mut at: usize = 0;
@@ -62,7 +78,7 @@ fn run(text: &[u8]) -> usize
         if end == text.len() {
             return at;
         }
-        case(&text[at..end]);
+        case(rt, &text[at..end]);
         at = end + 1;
     }
 }
@@ -82,27 +98,27 @@ fn line_end(text: &[u8], at: usize) -> usize
     i
 }
 
-fn case(line: &[u8]) {
+fn case(rt: &impl Print, line: &[u8]) {
     let kind = cases::number(line, 0);
     let at = kind.next;
     let k = kind.value;
     match k {
-        1 | 8 => table_and_offsets(line, at, k),
-        2 | 3 | 13 => table_and_room(line, at, k),
-        4 => table_and_budget(line, at),
-        5 => text_and_room(line, at),
-        6 => plan_and_room(line, at),
-        7 => file_and_rooms(line, at),
-        9 => ceiling(line, at),
-        11 => input(line, at),
-        12 => texts_and_rooms(line, at),
+        1 | 8 => table_and_offsets(rt, line, at, k),
+        2 | 3 | 13 => table_and_room(rt, line, at, k),
+        4 => table_and_budget(rt, line, at),
+        5 => text_and_room(rt, line, at),
+        6 => plan_and_room(rt, line, at),
+        7 => file_and_rooms(rt, line, at),
+        9 => ceiling(rt, line, at),
+        11 => input(rt, line, at),
+        12 => texts_and_rooms(rt, line, at),
         _ => {}
     }
-    show::end();
+    show::end(rt);
 }
 
 // A table and its offsets: checked, or reported.
-fn table_and_offsets(line: &[u8], at: usize, kind: u64) {
+fn table_and_offsets(rt: &impl Print, line: &[u8], at: usize, kind: u64) {
     let period = cases::number(line, at);
     let size = cases::number(line, period.next);
     let mut ds = [0u32; 132];
@@ -114,26 +130,26 @@ fn table_and_offsets(line: &[u8], at: usize, kind: u64) {
     let p = cases::word(period);
     let t = cases::word(size);
     if kind == 1 {
-        check(p, t, &ds[..n], &os[..m]);
+        check(rt, p, t, &ds[..n], &os[..m]);
     } else {
-        report(p, t, &ds[..n], &os[..m]);
+        report(rt, p, t, &ds[..n], &os[..m]);
     }
 }
 
-fn check(period: u32, size: u32, delays: &[u32], offsets: &[u32]) {
+fn check(rt: &impl Print, period: u32, size: u32, delays: &[u32], offsets: &[u32]) {
     let mut answer = [0u64; 5];
     seamwhisk::seamwhisk_check(period, size, delays, offsets, &mut answer);
-    show::five(&answer);
+    show::five(rt, &answer);
 }
 
-fn report(period: u32, size: u32, delays: &[u32], offsets: &[u32]) {
+fn report(rt: &impl Print, period: u32, size: u32, delays: &[u32], offsets: &[u32]) {
     let mut answer = [0u64; 8];
     seamwhisk::seamwhisk_report(period, size, delays, offsets, &mut answer);
-    show::eight(&answer);
+    show::eight(rt, &answer);
 }
 
 // A table and a lent list for its offsets.
-fn table_and_room(line: &[u8], at: usize, kind: u64) {
+fn table_and_room(rt: &impl Print, line: &[u8], at: usize, kind: u64) {
     let period = cases::number(line, at);
     let size = cases::number(line, period.next);
     let mut ds = [0u32; 132];
@@ -145,35 +161,35 @@ fn table_and_room(line: &[u8], at: usize, kind: u64) {
     let p = cases::word(period);
     let t = cases::word(size);
     match kind {
-        2 => first_fit(p, t, &ds[..n], &mut os[..m]),
-        3 => meta_offset(p, t, &ds[..n], &mut os[..m]),
-        _ => one_slot(p, t, &ds[..n], &mut os[..m]),
+        2 => first_fit(rt, p, t, &ds[..n], &mut os[..m]),
+        3 => meta_offset(rt, p, t, &ds[..n], &mut os[..m]),
+        _ => one_slot(rt, p, t, &ds[..n], &mut os[..m]),
     }
 }
 
-fn first_fit(period: u32, size: u32, delays: &[u32], offsets: &mut [u32]) {
+fn first_fit(rt: &impl Print, period: u32, size: u32, delays: &[u32], offsets: &mut [u32]) {
     let mut answer = [0u64; 2];
     seamwhisk::seamwhisk_first_fit(period, size, delays, offsets, &mut answer);
-    show::two(&answer);
-    show::list(offsets);
+    show::two(rt, &answer);
+    show::list(rt, offsets);
 }
 
-fn meta_offset(period: u32, size: u32, delays: &[u32], offsets: &mut [u32]) {
+fn meta_offset(rt: &impl Print, period: u32, size: u32, delays: &[u32], offsets: &mut [u32]) {
     let mut answer = [0u64; 2];
     seamwhisk::seamwhisk_meta_offset(period, size, delays, offsets, &mut answer);
-    show::two(&answer);
-    show::list(offsets);
+    show::two(rt, &answer);
+    show::list(rt, offsets);
 }
 
-fn one_slot(period: u32, size: u32, delays: &[u32], offsets: &mut [u32]) {
+fn one_slot(rt: &impl Print, period: u32, size: u32, delays: &[u32], offsets: &mut [u32]) {
     let mut answer = [0u64; 2];
     seamwhisk::seamwhisk_one_slot(period, size, delays, offsets, &mut answer);
-    show::two(&answer);
-    show::list(offsets);
+    show::two(rt, &answer);
+    show::list(rt, offsets);
 }
 
 // A table, a budget and a lent list for its offsets.
-fn table_and_budget(line: &[u8], at: usize) {
+fn table_and_budget(rt: &impl Print, line: &[u8], at: usize) {
     let period = cases::number(line, at);
     let size = cases::number(line, period.next);
     let budget = cases::number(line, size.next);
@@ -184,6 +200,7 @@ fn table_and_budget(line: &[u8], at: usize) {
     let n = delays.count;
     let m = offsets.count;
     exact(
+        rt,
         cases::word(period),
         cases::word(size),
         &ds[..n],
@@ -192,49 +209,56 @@ fn table_and_budget(line: &[u8], at: usize) {
     );
 }
 
-fn exact(period: u32, size: u32, delays: &[u32], budget: u64, offsets: &mut [u32]) {
+fn exact(
+    rt: &impl Print,
+    period: u32,
+    size: u32,
+    delays: &[u32],
+    budget: u64,
+    offsets: &mut [u32],
+) {
     let mut answer = [0u64; 3];
     seamwhisk::seamwhisk_exact(period, size, delays, budget, offsets, &mut answer);
-    show::three(&answer);
-    show::list(offsets);
+    show::three(rt, &answer);
+    show::list(rt, offsets);
 }
 
-fn ceiling(line: &[u8], at: usize) {
+fn ceiling(rt: &impl Print, line: &[u8], at: usize) {
     let n = cases::number(line, at);
-    show::one(seamwhisk::seamwhisk_ceiling(n.value as usize));
+    show::one(rt, seamwhisk::seamwhisk_ceiling(n.value as usize));
 }
 
 // A text and a lent list for its delays.
-fn text_and_room(line: &[u8], at: usize) {
+fn text_and_room(rt: &impl Print, line: &[u8], at: usize) {
     let mut bytes = [0u8; 1100];
     let text = cases::bytes(line, at, &mut bytes);
     let mut ds = [0u32; 132];
     let delays = cases::lent(line, text.next, &mut ds);
     let n = text.count;
     let m = delays.count;
-    read_table(&bytes[..n], &mut ds[..m]);
+    read_table(rt, &bytes[..n], &mut ds[..m]);
 }
 
-fn read_table(text: &[u8], delays: &mut [u32]) {
+fn read_table(rt: &impl Print, text: &[u8], delays: &mut [u32]) {
     let mut answer = [0u64; 5];
     seamwhisk::seamwhisk_read_table(text, delays, &mut answer);
-    show::five(&answer);
-    show::list(delays);
+    show::five(rt, &answer);
+    show::list(rt, delays);
 }
 
 // The input of the program `exact`.
-fn input(line: &[u8], at: usize) {
+fn input(rt: &impl Print, line: &[u8], at: usize) {
     let mut bytes = [0u8; 1100];
     let given = cases::bytes(line, at, &mut bytes);
     let n = given.count;
     let mut out = [0u8; console::MOST];
     let k = console::run(&bytes[..n], &mut out);
-    show::one(k as u64);
-    show::bytes(&out[..k]);
+    show::one(rt, k as u64);
+    show::bytes(rt, &out[..k]);
 }
 
 // A plan and a lent buffer for its file.
-fn plan_and_room(line: &[u8], at: usize) {
+fn plan_and_room(rt: &impl Print, line: &[u8], at: usize) {
     let period = cases::number(line, at);
     let size = cases::number(line, period.next);
     let mut ds = [0u32; 132];
@@ -247,6 +271,7 @@ fn plan_and_room(line: &[u8], at: usize) {
     let m = offsets.count;
     let k = file.count;
     write_plan(
+        rt,
         cases::word(period),
         cases::word(size),
         &ds[..n],
@@ -255,15 +280,22 @@ fn plan_and_room(line: &[u8], at: usize) {
     );
 }
 
-fn write_plan(period: u32, size: u32, delays: &[u32], offsets: &[u32], file: &mut [u8]) {
+fn write_plan(
+    rt: &impl Print,
+    period: u32,
+    size: u32,
+    delays: &[u32],
+    offsets: &[u32],
+    file: &mut [u8],
+) {
     let mut answer = [0u64; 3];
     seamwhisk::seamwhisk_write_plan(period, size, delays, offsets, file, &mut answer);
-    show::three(&answer);
-    show::bytes(file);
+    show::three(rt, &answer);
+    show::bytes(rt, file);
 }
 
 // A plan file and two lent lists, for its delays and its offsets.
-fn file_and_rooms(line: &[u8], at: usize) {
+fn file_and_rooms(rt: &impl Print, line: &[u8], at: usize) {
     let mut bytes = [0u8; 1100];
     let file = cases::bytes(line, at, &mut bytes);
     let mut ds = [0u32; 132];
@@ -273,21 +305,21 @@ fn file_and_rooms(line: &[u8], at: usize) {
     let n = file.count;
     let m = delays.count;
     let k = offsets.count;
-    read_plan(&bytes[..n], &mut ds[..m], &mut os[..k]);
+    read_plan(rt, &bytes[..n], &mut ds[..m], &mut os[..k]);
 }
 
-fn read_plan(file: &[u8], delays: &mut [u32], offsets: &mut [u32]) {
+fn read_plan(rt: &impl Print, file: &[u8], delays: &mut [u32], offsets: &mut [u32]) {
     let mut answer = [0u64; 5];
     seamwhisk::seamwhisk_read_plan(file, delays, offsets, &mut answer);
-    show::five(&answer);
-    show::list(delays);
-    show::list(offsets);
+    show::five(rt, &answer);
+    show::list(rt, delays);
+    show::list(rt, offsets);
 }
 
 // A budget, joined texts and two lent lists, for their answers and their offsets.
-fn texts_and_rooms(line: &[u8], at: usize) {
+fn texts_and_rooms(rt: &impl Print, line: &[u8], at: usize) {
     let budget = cases::number(line, at);
-    let mut bytes = io::large_buffer();
+    let mut bytes = [0u8; BLOCK];
     let texts = cases::parts(line, budget.next, &mut bytes);
     let mut xs = [0u64; 132];
     let answers = cases::lent_numbers(line, texts.next, &mut xs);
@@ -298,14 +330,30 @@ fn texts_and_rooms(line: &[u8], at: usize) {
     let n = texts.count;
     let m = answers.count;
     let k = offsets.count;
-    plan_texts(&bytes[..n], budget.value, &mut xs[..m], &mut os[..k], f, g);
+    plan_texts(
+        rt,
+        &bytes[..n],
+        budget.value,
+        &mut xs[..m],
+        &mut os[..k],
+        f,
+        g,
+    );
 }
 
 // The answer, and what has changed in the lists, which begin with f and with g.
-fn plan_texts(texts: &[u8], budget: u64, answers: &mut [u64], offsets: &mut [u32], f: u64, g: u64) {
+fn plan_texts(
+    rt: &impl Print,
+    texts: &[u8],
+    budget: u64,
+    answers: &mut [u64],
+    offsets: &mut [u32],
+    f: u64,
+    g: u64,
+) {
     let mut answer = [0u64; 3];
     seamwhisk::seamwhisk_plan_texts_flat(texts, budget, answers, offsets, &mut answer);
-    show::three(&answer);
-    show::changes(answers, f);
-    show::word_changes(offsets, g);
+    show::three(rt, &answer);
+    show::changes(rt, answers, f);
+    show::word_changes(rt, offsets, g);
 }

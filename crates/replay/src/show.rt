@@ -1,82 +1,79 @@
 // Printing an answer: numbers with a space between them, a case a line.
 ghost use Rattle.std.specs.Prelude.{◌≤◌};
 
-use libc::STDOUT_FILENO;
-
-// The first number of a line.
-fn first(x: u64) {
-    io::print_decimal(STDOUT_FILENO, x);
+// The first number of a line. A failed write is not told: what it should have written is missing.
+fn first(rt: &impl Print, x: u64) {
+    let _ = rt.print(x);
 }
 
-fn next(x: u64) {
-    io::write_all(STDOUT_FILENO, b" ");
-    io::print_decimal(STDOUT_FILENO, x);
+fn next(rt: &impl Print, x: u64) {
+    let _ = print!(rt; " {x}");
 }
 
 // The numbers of an answer, which begin the line.
-pub(crate) fn one(x: u64) {
-    first(x);
+pub(crate) fn one(rt: &impl Print, x: u64) {
+    first(rt, x);
 }
 
-pub(crate) fn two(xs: &[u64; 2]) {
-    first(xs[0]);
-    next(xs[1]);
+pub(crate) fn two(rt: &impl Print, xs: &[u64; 2]) {
+    first(rt, xs[0]);
+    next(rt, xs[1]);
 }
 
-pub(crate) fn three(xs: &[u64; 3]) {
-    first(xs[0]);
-    next(xs[1]);
-    next(xs[2]);
+pub(crate) fn three(rt: &impl Print, xs: &[u64; 3]) {
+    first(rt, xs[0]);
+    next(rt, xs[1]);
+    next(rt, xs[2]);
 }
 
-pub(crate) fn five(xs: &[u64; 5]) {
-    first(xs[0]);
-    next(xs[1]);
-    next(xs[2]);
-    next(xs[3]);
-    next(xs[4]);
+pub(crate) fn five(rt: &impl Print, xs: &[u64; 5]) {
+    first(rt, xs[0]);
+    next(rt, xs[1]);
+    next(rt, xs[2]);
+    next(rt, xs[3]);
+    next(rt, xs[4]);
 }
 
-pub(crate) fn eight(xs: &[u64; 8]) {
-    first(xs[0]);
-    next(xs[1]);
-    next(xs[2]);
-    next(xs[3]);
-    next(xs[4]);
-    next(xs[5]);
-    next(xs[6]);
-    next(xs[7]);
+pub(crate) fn eight(rt: &impl Print, xs: &[u64; 8]) {
+    first(rt, xs[0]);
+    next(rt, xs[1]);
+    next(rt, xs[2]);
+    next(rt, xs[3]);
+    next(rt, xs[4]);
+    next(rt, xs[5]);
+    next(rt, xs[6]);
+    next(rt, xs[7]);
 }
 
-fn next_word(x: u32) {
-    next(x as u64);
+fn next_word(rt: &impl Print, x: u32) {
+    next(rt, x as u64);
 }
 
-fn next_byte(x: u8) {
-    next(x as u64);
+fn next_byte(rt: &impl Print, x: u8) {
+    next(rt, x as u64);
 }
 
-pub(crate) fn list(xs: &[u32]) {
+pub(crate) fn list(rt: &impl Print, xs: &[u32]) {
     let mut i: usize = 0;
     while i < xs.len() {
-        next_word(xs[i]);
+        next_word(rt, xs[i]);
         i += 1;
     }
 }
 
-pub(crate) fn bytes(xs: &[u8]) {
+pub(crate) fn bytes(rt: &impl Print, xs: &[u8]) {
     let mut i: usize = 0;
     while i < xs.len() {
-        next_byte(xs[i]);
+        next_byte(rt, xs[i]);
         i += 1;
     }
 }
 
 // What is new at index i, where `was` stood.
-fn change(i: usize, x: u64, was: u64) {
+fn change(rt: &impl Print, i: usize, x: u64, was: u64) {
     if x != was {
-        next(i as u64);
-        next(x);
+        next(rt, i as u64);
+        next(rt, x);
     }
 }
 
@@ -118,25 +115,25 @@ fn changed_words(xs: &[u32], f: u64) -> usize {
 }
 
 // What has changed in a lent list: how many numbers, and of each its index and itself.
-pub(crate) fn changes(xs: &[u64], f: u64) {
-    next(changed(xs, f) as u64);
+pub(crate) fn changes(rt: &impl Print, xs: &[u64], f: u64) {
+    next(rt, changed(xs, f) as u64);
     let mut i: usize = 0;
     while i < xs.len() {
-        change(i, xs[i], std::num::wrapping_add_u64(f, i as u64));
+        change(rt, i, xs[i], std::num::wrapping_add_u64(f, i as u64));
         i += 1;
     }
 }
 
 // The same of 32-bit numbers.
-pub(crate) fn word_changes(xs: &[u32], f: u64) {
-    next(changed_words(xs, f) as u64);
+pub(crate) fn word_changes(rt: &impl Print, xs: &[u32], f: u64) {
+    next(rt, changed_words(xs, f) as u64);
     let mut i: usize = 0;
     while i < xs.len() {
-        change(i, wide(xs[i]), std::num::wrapping_add_u64(f, i as u64));
+        change(rt, i, wide(xs[i]), std::num::wrapping_add_u64(f, i as u64));
         i += 1;
     }
 }
 
-pub(crate) fn end() {
-    io::write_all(STDOUT_FILENO, b"\n");
+pub(crate) fn end(rt: &impl Print) {
+    let _ = println!(rt);
 }
