@@ -1,7 +1,5 @@
 use mathlib.Core.Path.{refl, sym}
-use Prim.Native.Nat.{◌-◌}
 use native.Mathlib.Omega.{arith}
-use lib.ListN.{length}
 use lib.Seq.{length-take-le}
 use Rattle.report.proofs.Crossings.{none_yet, one_more, fits, placed, firsts, seconds, tells}
 use Rattle.report.proofs.both.Goals as goal
