@@ -1,4 +1,3 @@
-use Prim.Native.Nat.{◌-◌}
 use native.Mathlib.Omega.{arith}
 use Rattle.search.proofs.Numbers.{is_step_lem, skip_row, skip_rest, skip_pair}
 use Rattle.search.proofs.next_step.Goals as goal
