@@ -27,6 +27,7 @@ Led [] = ⊥
 Led (b ∷ l) = b ≤ nine
 
 led_more : (l r : List ℕ) → Led l → Led (l ++ r)
+led_more [] r h = elim h [ ]
 led_more (b ∷ l) r h = h
 
 led : (l : List ℕ) → Decimal l → Led l
