@@ -4,8 +4,8 @@ use mathlib.Core.List.{List, [], ◌++◌, append_assoc}
 use Prim.Native.Nat.{ℕ, ◌+◌, ◌*◌, ◌≤◌, ◌<◌}
 use native.Mathlib.Omega.{arith}
 use native.Mathlib.Numerals.{add-one}
-use lib.ListN.{length, get_or, take, drop, length-append, drop_of_length-le}
-use lib.Seq.{drop-cons, take-length}
+use lib.ListN.{length, get_or, drop, length-append, drop_of_length-le}
+use lib.Seq.{drop-cons}
 use borrow.Author.Tests.{lt-ltb, le-ltb}
 use Rattle.link.specs.Limits.{bad_length}
 use Rattle.link.specs.Range.{GoodPlan}
@@ -118,10 +118,6 @@ plan_put k ds os f₀ f₁ f₂ f₃ r₁ r₂ room e b c =
     let front = and_then f₀ 0 tag (omega arith) 4 f₁ (record { end = refl; written = e }) head r₁ f₂ b in
     and_then f₀ 0 (tag ++ head) (omega (arith, length_header k (length ds))) r₁ f₂ front (rows_bytes ds os) r₂ f₃ c
 
--- the kit's copy of a whole list leaves it on the buffer's front
-pub copied_whole : (xs bs old out : List ℕ) → out ≡ take (length xs) xs ++ drop (length xs) old → xs ≡ bs → out ≡ on_front bs old
-copied_whole xs bs old out e f = e ∙ rw (take-length, f)
-
--- and the answer says how many
+-- the whole file stands on the buffer's front, and the answer says how many bytes it has
 pub stored_as : {n : ℕ} {out : List ℕ} (bs old : List ℕ) → n ≡ length bs → out ≡ on_front bs old → gives (writes n) out ≡ stored bs old
 stored_as bs old e f = λ i. gives (writes (e i)) (f i)
