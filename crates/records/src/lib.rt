@@ -15,7 +15,7 @@ use link::limits::{BAD_DELAY, BAD_OFFSET, BAD_ROWS, MAX_DELAY, MAX_ROWS};
 use link::{Link, Met};
 
 #[repr(C)]
-#[derive(Drop)]
+#[derive(Clone, Copy)]
 pub struct Record {
     pub delay: u32,
     pub offset: u32,
@@ -85,7 +85,7 @@ fn paired(period: u32, span: u32, pairs: Pairs, i: usize, row: Record) -> Pairs
     requires { i < max_rows }
     ensures { (rs : List Record) → RowAt rs i row → Paired period span rs i pairs → Paired period span rs (i + 1) result }
 {
-    let before = pairs.met;
+    let before = &pairs.met;
     if let Met::Row { .. } = before {
         return pairs;
     }
