@@ -59,7 +59,8 @@ length_header k n =
 length_two : (x y : ℕ) → length (number_bytes x ++ number_bytes y) ≤ 8
 length_two x y = rw length-append (omega (arith, length_number x, length_number y))
 
-two_put : (x y at r₁ r₂ : ℕ) (f₀ f₁ f₂ : List ℕ) → at + 8 ≤ length f₀ → Adds f₀ at (number_bytes x) r₁ f₁ → Adds f₁ r₁ (number_bytes y) r₂ f₂
+two_put : (x y at r₁ r₂ : ℕ) (f₀ f₁ f₂ : List ℕ) → at + 8 ≤ length f₀ → Adds f₀ at (number_bytes x) r₁ f₁
+    → Adds f₁ r₁ (number_bytes y) r₂ f₂
     → Adds f₀ at (number_bytes x ++ number_bytes y) r₂ f₂
 two_put x y at r₁ r₂ f₀ f₁ f₂ room p q = and_then f₀ at (number_bytes x) (omega (arith, length_number x)) r₁ f₁ p (number_bytes y) r₂ f₂ q
 
@@ -89,7 +90,8 @@ module _ (ds os f₀ : List ℕ) (from : ℕ) (f : List ℕ) (at j : ℕ) (w : W
   next_row h l = rw (drop-cons ds j 0 h, drop-cons os j 0 l, add-one, append_assoc)
 
   pub writing_more : (f₁ f₂ : List ℕ) (r₁ r₂ : ℕ) → j < length ds → RowsFit ds os → from + rows_room ≤ length f₀
-      → Adds f at (number_bytes (get_or ds j 0)) r₁ f₁ → Adds f₁ r₁ (number_bytes (get_or os j 0)) r₂ f₂ → Writing ds os f₀ from f₂ r₂ (j + 1)
+      → Adds f at (number_bytes (get_or ds j 0)) r₁ f₁ → Adds f₁ r₁ (number_bytes (get_or os j 0)) r₂ f₂
+      → Writing ds os f₀ from f₂ r₂ (j + 1)
   writing_more f₁ f₂ r₁ r₂ h fit room p q =
       let d = get_or ds j 0 in
       let o = get_or os j 0 in

@@ -125,7 +125,8 @@ fn seen_with(link: Link, seen: Seen, i: usize, row: Record) -> Seen
 
 // The answer on n records: 5, 6, 8, 7, 17, then the collision, or clear.
 fn answer_of(link: Link, n: usize, seen: Seen) -> Checked
-    ensures { (rs : List Record) → length rs ≡ n → Shows link rs (to_read n) seen → said result ≡ answer link (delays_of rs) (offsets_of rs) }
+    ensures { (rs : List Record) → length rs ≡ n → Shows link rs (to_read n) seen
+        → said result ≡ answer link (delays_of rs) (offsets_of rs) }
 {
     if let Judged::Fault { number, place } = link::judge::link_values(link) {
         return Checked::Refused { number, place };

@@ -10,7 +10,16 @@ pub word-at-requires-2 : goal.word-at-requires-2
 word-at-requires-2 c = omega (arith, c.decimal-at.auto.out, c.word-at.auto.out, c.decimal-at.ensures.1, c.word-at.ensures.end)
 
 pub line-requires : goal.line-requires
-line-requires c = omega (arith, c.word-at-2.auto.out, c.decimal-at.auto.out, c.word-at.auto.out, c.word-at-2.ensures.end, c.decimal-at.ensures.1, c.word-at.ensures.end)
+line-requires c =
+    omega (
+      arith,
+      c.word-at-2.auto.out,
+      c.decimal-at.auto.out,
+      c.word-at.auto.out,
+      c.word-at-2.ensures.end,
+      c.decimal-at.ensures.1,
+      c.word-at.ensures.end,
+    )
 
 pub returns : goal.returns
 unfolding refused_line

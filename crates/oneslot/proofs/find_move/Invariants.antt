@@ -9,7 +9,8 @@ use Rattle.oneslot.proofs.find_move.Given as goal
 
 abbrev pub invariant-loop-i : goal.invariant-loop-i
 invariant-loop-i l =
-    (l.i ≤ length l.firsts) × ((k : ℕ) → k < l.i → gives_way l.period (can_move l.period l.span l.delays l.delay l.firsts l.seconds) k ≡ false)
+    (l.i ≤ length l.firsts)
+    × ((k : ℕ) → k < l.i → gives_way l.period (can_move l.period l.span l.delays l.delay l.firsts l.seconds) k ≡ false)
 
 abbrev pub decreases-loop-i : goal.decreases-loop-i
 decreases-loop-i l = length l.firsts - l.i

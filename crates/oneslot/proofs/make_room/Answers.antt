@@ -23,7 +23,8 @@ beside-offset-requires c = record { ways = (c.requires.ways, omega arith); first
 pub returns-then-offset-period : goal.returns-then-offset-period
 returns-then-offset-period c =
     let at_least = c.first_free-least.ensures in
-    room_here _ _ _ _ _ _ c.requires.firsts_len.0 c.loop-to.to c.loop-to.invariant (omega arith) _ _ at_least c.beside-offset.ensures _ c.if-offset-period.true
+    room_here _ _ _ _ _ _ c.requires.firsts_len.0 c.loop-to.to c.loop-to.invariant
+    (omega arith) _ _ at_least c.beside-offset.ensures _ c.if-offset-period.true
 
 pub overflow_add-to : goal.overflow_add-to
 overflow_add-to c = omega (arith, c.requires.ways.period)
@@ -39,9 +40,11 @@ loop-to-smaller c =
 pub loop-to-preserved : goal.loop-to-preserved
 loop-to-preserved c =
     let at_least = c.first_free-least.ensures in
-    let none = not_here _ _ _ _ _ _ c.requires.firsts_len.0 c.loop-to.to c.loop-to.invariant (omega arith) _ _ at_least c.beside-offset.ensures
+    let none = not_here _ _ _ _ _ _ c.requires.firsts_len.0 c.loop-to.to c.loop-to.invariant
+    (omega arith) _ _ at_least c.beside-offset.ensures
     c.if-offset-period.false in
-    walk_goes_on _ _ _ (shut_room _ _ _ _ _ _ c.requires.firsts_len.0) c.loop-to.to _ c.loop-to.invariant none c.first_free-to-in-loop-to.ensures
+    walk_goes_on _ _ _ (shut_room _ _ _ _ _ _ c.requires.firsts_len.0) c.loop-to.to _ c.loop-to.invariant none
+    c.first_free-to-in-loop-to.ensures
 
 pub returns : goal.returns
 returns c = none_left _ _ _ _ _ _ c.requires.firsts_len.0 c.loop-to.to c.loop-to.invariant _ (omega arith)

@@ -19,14 +19,19 @@ pub slice_bounds-first_free-end-in-loop-j : goal.slice_bounds-first_free-end-in-
 slice_bounds-first_free-end-in-loop-j c = sym (length-take-le _ _ (omega arith))
 
 pub first_free-a-requires : goal.first_free-a-requires
-first_free-a-requires c = record { ways = c.requires.ways; from_le_count = (omega arith, same_front c.loop-j.j c.loop-j.firsts c.loop-j.seconds (omega arith) (omega arith)) }
+first_free-a-requires c =
+    record {
+      ways = c.requires.ways;
+      from_le_count = (omega arith, same_front c.loop-j.j c.loop-j.firsts c.loop-j.seconds (omega arith) (omega arith));
+    }
 
 pub put-requires : goal.put-requires
 put-requires c = (c.requires.ways.some_period, omega arith, omega arith)
 
 pub loop-j-preserved-then-a-period : goal.loop-j-preserved-then-a-period
 loop-j-preserved-then-a-period c =
-    let onward = free_onward _ _ _ c.requires.ways c.loop-j.j (omega arith) (omega arith) c.loop-j.firsts c.loop-j.seconds c.loop-j.invariant.1 _
+    let onward = free_onward _ _ _ c.requires.ways c.loop-j.j (omega arith)
+    (omega arith) c.loop-j.firsts c.loop-j.seconds c.loop-j.invariant.1 _
     c.first_free-a.ensures _ c.if-a-period.true refl in
     (omega arith, rw (c.put.ensures.0, c.put.ensures.1) onward)
 
@@ -43,7 +48,14 @@ pub find_move-requires : goal.find_move-requires
 find_move-requires c =
     let rows = length-take-le c.loop-j.j c.loop-j.firsts (omega arith) in
     let delays = length-take-le c.loop-j.j c.args.delays.now (omega arith) in
-    record { ways = c.requires.ways; firsts_len = (same_front c.loop-j.j c.loop-j.firsts c.loop-j.seconds (omega arith) (omega arith), rows ∙ sym delays, omega (arith, rows)) }
+    record {
+      ways = c.requires.ways;
+      firsts_len = (
+        same_front c.loop-j.j c.loop-j.firsts c.loop-j.seconds (omega arith) (omega arith),
+        rows ∙ sym delays,
+        omega (arith, rows),
+      );
+    }
 
 pub returns-in-None : goal.returns-in-None
 unfolding said outcome

@@ -13,7 +13,8 @@ word-requires c = simp (length-take, length-drop) (omega arith)
 
 pub returns : goal.returns
 returns c =
-    let all = take_all (max_digits - c.spell-spelt.result.from) (drop c.spell-spelt.result.from c.spell-spelt.result.digits) (simp length-drop (omega arith))
+    let all = take_all (max_digits - c.spell-spelt.result.from) (drop c.spell-spelt.result.from c.spell-spelt.result.digits)
+    (simp length-drop (omega arith))
     ∙ c.spell-spelt.ensures.2 in
     let put = rw all at c.word.ensures in
     (put, omega (arith, put.end, number_short c.args.n))
