@@ -14,6 +14,7 @@ import sys
 
 TOKEN = re.compile(r"[A-Za-zμ_+][\w'₀₁₂₃ˢ-]*[\w'₀₁₂₃ˢ]|[A-Za-z_]")
 DECLARED = re.compile(r"^ *(?:(?:pub|abbrev|unfoldable|data|record|mutual) )*([A-Za-zμ][\w'-]*)(?: +(?:[^\s:]+|\([^)]*\)|\{[^}]*\}))* *:(?= |$)")
+CITED = re.compile(r"`(?:\w+: )?[^ /`]+`")
 LET = re.compile(r"\blet ([a-z][\w'-]*)")
 
 
@@ -119,7 +120,7 @@ def main():
         out, was = [], {}
         for line in text.split("\n"):
             if path.endswith(".md"):
-                line = re.sub(r"`[^`]*`", lambda m: m.group() if " " in m.group() or "/" in m.group() else sub(here, m.group(), True), line)
+                line = re.sub(r"`[^`]*`", lambda m: sub(here, m.group(), True) if CITED.fullmatch(m.group()) else m.group(), line)
             elif path.endswith(".edit"):
                 line = edited(sub(here, line, True)) if line.startswith(("old:", "new:")) else line
             else:

@@ -25,7 +25,8 @@ delays = 0 ∷ 3 ∷ 7 ∷ []
 
 -- "First table, offsets 0 2 4: collision of rows 0 and 2 in crossing 2."
 pub collides : said (Collision 0 2 2) ≡ answer link delays (0 ∷ 2 ∷ 4 ∷ [])
-unfolding said answer first outside and_then link_faults row_faults offset_faults named blocked free met_by met_at first_hit either hits start
+unfolding said answer first outside and_then link_faults row_faults offset_faults named blocked free met_by met_at first_hit either hits
+    start
     second meets uses least one_more
 collides = refl
 
@@ -33,7 +34,8 @@ pub first_named : FirstCollision 10 2 delays (0 ∷ 2 ∷ 4 ∷ []) 0 2 2
 first_named = (collision_is_first link delays (0 ∷ 2 ∷ 4 ∷ []) (Collision 0 2 2) collides 0 2 2 refl).1
 
 pub clears : said Clearly ≡ answer link delays (0 ∷ 2 ∷ 5 ∷ [])
-unfolding said answer first outside and_then link_faults row_faults offset_faults named blocked free met_by met_at first_hit either hits start
+unfolding said answer first outside and_then link_faults row_faults offset_faults named blocked free met_by met_at first_hit either hits
+    start
     second meets uses least one_more
 clears = refl
 

@@ -61,7 +61,8 @@ begins_agree (w ∷ ws) (b ∷ bs) e =
     go same later zero l = same
     go same later (suc i) l = later i (omega arith)
 
-pub agree_begins : (ws bs : List ℕ) → length ws ≤ length bs → ((i : ℕ) → i < length ws → get_or bs i 0 ≡ get_or ws i 0) → begins ws bs ≡ true
+pub agree_begins : (ws bs : List ℕ) → length ws ≤ length bs → ((i : ℕ) → i < length ws → get_or bs i 0 ≡ get_or ws i 0)
+    → begins ws bs ≡ true
 unfolding begins
 agree_begins [] bs h a = refl
 agree_begins (w ∷ ws) [] h a = absurd (omega arith)

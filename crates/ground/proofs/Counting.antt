@@ -75,7 +75,8 @@ count_or q r zero h = omega arith
 count_or q r (suc n) h =
     let i = count_or q r n (λ s l. h s (omega arith)) in
     ⊎_elim
-    (λ e. let f = is_false (r n) (h n (omega arith) e) in omega (arith, count_in_lem q n e, count_out r n f, count_in_lem (or_of q r) n (rw e)))
+    (λ e. let f = is_false (r n) (h n (omega arith) e) in
+    omega (arith, count_in_lem q n e, count_out r n f, count_in_lem (or_of q r) n (rw e)))
     (λ e. ⊎_elim (λ f. omega (arith, count_out q n e, count_in_lem r n f, count_in_lem (or_of q r) n (rw (e, f))))
     (λ f. omega (arith, count_out q n e, count_out r n f, count_out (or_of q r) n (rw (e, f)))) (true_or_false (r n)))
     (true_or_false (q n))
@@ -97,7 +98,8 @@ count_less q r j (suc n) l e f h = ⊎_elim (λ m. before m (count_less q r j n 
     before : j < n → count q n ≡ suc (count r n) → count q (suc n) ≡ suc (count r (suc n))
     before m i =
         let s = h n (λ t. omega arith) in
-        ⊎_elim (λ t. omega (arith, i, count_in_lem q n (s ∙ t), count_in_lem r n t)) (λ t. omega (arith, i, count_out q n (s ∙ t), count_out r n t))
+        ⊎_elim (λ t. omega (arith, i, count_in_lem q n (s ∙ t), count_in_lem r n t))
+        (λ t. omega (arith, i, count_out q n (s ∙ t), count_out r n t))
         (true_or_false (r n))
 
     last : n ≡ j → count q (suc n) ≡ suc (count r (suc n))

@@ -2,7 +2,7 @@
 #![tactic(auto)]
 
 ghost use Rattle.std.specs.Prelude.{◌≡◌, ◌≤◌, length};
-ghost use Rattle.ground.specs.Words.{begins as beginsOf};
+ghost use Rattle.ground.specs.Words.{begins};
 ghost use Rattle.ground.specs.Lent.{on_front};
 
 // What judging says: nothing is wrong, or the first fault.
@@ -14,7 +14,7 @@ pub enum Judged {
 
 // The word stands in front.
 pub fn begins(word: &[u8], bytes: &[u8]) -> bool
-    ensures { result ≡ beginsOf word.now bytes.now }
+    ensures { result ≡ begins word.now bytes.now }
 {
     let mut i = 0;
     while i < word.len() {

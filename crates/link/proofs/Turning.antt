@@ -87,7 +87,8 @@ module _ (p r : ℕ) (some : 0 < p) where
     start_moved c i l = ap (start_at p c (get_or ds i 0)) (moved_at i l) ∙ start_on c (get_or ds i 0) (get_or os i 0)
 
     met_moved : (l : ℕ) (c : Crossing) (i j : ℕ) → i < length os → j < length os
-        → meets p l (start p ds (moved_on p r os) c i) (start p ds (moved_on p r os) c j) ≡ meets p l (start p ds os c i) (start p ds os c j)
+        → meets p l (start p ds (moved_on p r os) c i) (start p ds (moved_on p r os) c j)
+        ≡ meets p l (start p ds os c i) (start p ds os c j)
     met_moved l c i j a b = ap₂ (meets p l) (start_moved c i a) (start_moved c j b) ∙ meets_moved l (start p ds os c i) (start p ds os c j)
 
     -- row j meets an earlier row exactly where it did

@@ -30,7 +30,8 @@ module _ (i j : ℕ) (hi : i < j) where
   at_last : (k r : ℕ) → k < j - 1 → k ≡ i → r ≡ j - 1 → Has k r
   unfolding without
   at_last k r h e f zs n =
-      get_or-take (length zs - 1) (set zs i (last_of zs)) k 0 (omega arith) ∙ rw (e, f, ← n) (get_or-set_same zs i (last_of zs) 0 (omega arith))
+      get_or-take (length zs - 1) (set zs i (last_of zs)) k 0 (omega arith)
+      ∙ rw (e, f, ← n) (get_or-set_same zs i (last_of zs) 0 (omega arith))
 
   at_own : (k : ℕ) → k < j - 1 → (k ≡ i → ⊥) → Has k k
   unfolding without

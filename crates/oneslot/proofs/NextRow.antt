@@ -36,7 +36,8 @@ module _ (p l : ℕ) (ds : List ℕ) where
   or_move os b = cond b (rows (os ++ (least (is_free_lem os) p ∷ []))) (made os (length os) (least_move p (serves p l ds os) (length os)))
 
   placed_is : (os : List ℕ)
-      → place p l ds 1 p (length os) (rows os) ≡ cond (some (is_free_lem os) p) (rows (os ++ (least (is_free_lem os) p ∷ []))) (stuck (length os))
+      → place p l ds 1 p (length os) (rows os)
+      ≡ cond (some (is_free_lem os) p) (rows (os ++ (least (is_free_lem os) p ∷ []))) (stuck (length os))
   unfolding place free_at
   placed_is os = rw (least_cong (free_at p l ds os (length os) 1) (is_free_lem os) p (λ c _. rw mul-one), mul-one)
 
@@ -44,7 +45,8 @@ module _ (p l : ℕ) (ds : List ℕ) where
   unfolding settle or_moved
   settle_is os = ap (or_moved p l ds os (length os)) (placed_is os) ∙ go (some (is_free_lem os) p)
     where
-      go : (b : Bool) → or_moved p l ds os (length os) (cond b (rows (os ++ (least (is_free_lem os) p ∷ []))) (stuck (length os))) ≡ or_move os b
+      go : (b : Bool)
+          → or_moved p l ds os (length os) (cond b (rows (os ++ (least (is_free_lem os) p ∷ []))) (stuck (length os))) ≡ or_move os b
       go true = refl
       go false = refl
 

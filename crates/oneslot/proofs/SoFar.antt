@@ -27,9 +27,11 @@ module _ (p l : ℕ) (ds os : List ℕ) where
 
   -- the same of the first n rows of the table, by their own delays
   module _ (n : ℕ) (hn : n ≤ length ds) where
-    same : (j : ℕ) → j < n → free p l (take n ds) os j (get_or (take n ds) j 0) (get_or os j 0) ≡ free p l ds os j (get_or ds j 0) (get_or os j 0)
+    same : (j : ℕ) → j < n
+        → free p l (take n ds) os j (get_or (take n ds) j 0) (get_or os j 0) ≡ free p l ds os j (get_or ds j 0) (get_or os j 0)
     same j h =
-        rw (get_or-take n ds j 0 h) (free_table p l (take n ds) ds os j (get_or ds j 0) (get_or os j 0) (λ i q. get_or-take n ds i 0 (omega arith)))
+        rw (get_or-take n ds j 0 h)
+        (free_table p l (take n ds) ds os j (get_or ds j 0) (get_or os j 0) (λ i q. get_or-take n ds i 0 (omega arith)))
 
     pub rows_so_far : 0 < p → ((j : ℕ) → j < n → RowFree j) → Clear p l (take n ds) os
     rows_so_far h f =

@@ -44,25 +44,29 @@ plan₁ = 2 ∷ 1 ∷ 0 ∷ 3 ∷ 9 ∷ []
 
 -- 4, 1, (0 2 1 1): First Fit gives 13 at row 2
 pub let_in : gives (said Plan) plan₁ ≡ one_slot (link 4 1) ds₁ old
-unfolding said one_slot outcome settled settle or_moved place free_at all_clear blocked serves opens move_of gives_way least_move free hits first
+unfolding said one_slot outcome settled settle or_moved place free_at all_clear blocked serves opens move_of gives_way least_move free
+    hits first
     and_then link_faults row_faults room_faults size_faults start outside either second uses meets least one_more
 let_in = refl
 
 -- 2, 1, (0 1): wherever the two rows stand, they meet in one of the crossings
 pub gives_up : gives (said (Refused 13 1)) old ≡ one_slot (link 2 1) ds₂ old
-unfolding said one_slot outcome settled settle or_moved place free_at all_clear blocked serves opens move_of gives_way least_move free hits first
+unfolding said one_slot outcome settled settle or_moved place free_at all_clear blocked serves opens move_of gives_way least_move free
+    hits first
     and_then link_faults row_faults room_faults size_faults start outside either second uses meets least one_more
 gives_up = refl
 
 -- 4, 2, (0 1): the size isn't 1
 pub two_slots : gives (said (Refused 25 0)) old ≡ one_slot (link 4 2) ds₂ old
-unfolding said one_slot outcome settled settle or_moved place free_at all_clear blocked serves opens move_of gives_way least_move free hits first
+unfolding said one_slot outcome settled settle or_moved place free_at all_clear blocked serves opens move_of gives_way least_move free
+    hits first
     and_then link_faults row_faults room_faults size_faults start outside either second uses meets least one_more
 two_slots = refl
 
 -- 3, 1, (0 1): First Fit has a plan
 pub fits : gives planning (0 ∷ 1 ∷ 9 ∷ 9 ∷ 9 ∷ []) ≡ first_fit (link 3 1) ds₂ old
-unfolding said quick outcome placed place free_at free hits first and_then link_faults row_faults room_faults start outside either second uses
+unfolding said quick outcome placed place free_at free hits first and_then link_faults row_faults room_faults start outside either second
+    uses
     meets least one_more
 fits = refl
 
@@ -77,7 +81,8 @@ abbrev four_in : List ℕ
 four_in = 2 ∷ 1 ∷ 0 ∷ 3 ∷ []
 
 pub gives_way_lem : Next 4 1 ds₁ two_in three_in
-unfolding settle or_moved place free_at all_clear blocked serves opens move_of gives_way least_move free hits start either second uses meets least
+unfolding settle or_moved place free_at all_clear blocked serves opens move_of gives_way least_move free hits start either second uses
+    meets least
     one_more
 gives_way_lem = is_next 4 1 ds₁ (omega arith) two_in (omega arith) three_in refl
 
@@ -93,7 +98,8 @@ just_one = one_moves 4 1 ds₁ two_in (omega arith) none_free gives_way_lem
 
 -- the offset 3 is free for row 3, and the others stay
 pub comes_in : Next 4 1 ds₁ three_in four_in
-unfolding settle or_moved place free_at all_clear blocked serves opens move_of gives_way least_move free hits start either second uses meets least
+unfolding settle or_moved place free_at all_clear blocked serves opens move_of gives_way least_move free hits start either second uses
+    meets least
     one_more
 comes_in = is_next 4 1 ds₁ (omega arith) three_in (omega arith) four_in refl
 

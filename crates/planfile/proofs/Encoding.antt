@@ -143,7 +143,8 @@ cut_groups (suc more) first x (suc m) h = ⊎_elim low (λ k. high k (λ l. cut_
         (more_bytes_read more first x (take m (groups more (x / 128))) Cut (deeper (omega (arith, rw (le-ltb x 128 k) at h))))
 
 -- the same of a whole number
-pub number_reads : (x : ℕ) (rest : List ℕ) → x < limit more_groups → read_number (number_bytes x ++ rest) ≡ Value x (length (number_bytes x))
+pub number_reads : (x : ℕ) (rest : List ℕ) → x < limit more_groups
+    → read_number (number_bytes x ++ rest) ≡ Value x (length (number_bytes x))
 unfolding read_number number_bytes
 number_reads x rest h = reads_written more_groups true x rest h (λ e. never (cc))
 

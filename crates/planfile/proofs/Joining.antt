@@ -31,7 +31,8 @@ module _ (bs : List ℕ) (at : ℕ) where
   in_range (Refused n p) e = tt
   in_range (Read k n next) e = go (begins tag bs) e
     where
-      go : (b : Bool) → got (record { link = k; rows = n }) next ≡ cond b (header bs at) (stopped (tag_fault bs) 0) → InRange (Read k n next)
+      go : (b : Bool) → got (record { link = k; rows = n }) next ≡ cond b (header bs at) (stopped (tag_fault bs) 0)
+          → InRange (Read k n next)
       go true f = let r = header_read bs at (record { link = k; rows = n }) next (sym f) in (r.period.low, r.rows.high)
       go false f = never (cc)
 

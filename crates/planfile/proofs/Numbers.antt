@@ -167,7 +167,8 @@ group_stored file at x more l h = rw (one_group more x h) (one_set file at x l)
 pub groups_stored : (file last : List ℕ) (at x more r : ℕ) → at < length file → 1 ≤ more → 128 ≤ x →
     Adds (set file at (128 + x % 128)) (at + 1) (groups (more - 1) (x / 128)) r last → Adds file at (groups more x) r last
 groups_stored file last at x more r l m h a =
-    rw (more_groups_lem more x m h) (and_then file at ((128 + x % 128) ∷ []) (omega arith) _ _ (one_set file at (128 + x % 128) l) _ r last a)
+    rw (more_groups_lem more x m h)
+    (and_then file at ((128 + x % 128) ∷ []) (omega arith) _ _ (one_set file at (128 + x % 128) l) _ r last a)
 
 pub length_number : (x : ℕ) → length (number_bytes x) ≤ 4
 unfolding number_bytes

@@ -51,7 +51,8 @@ number_passed bs rest at lo hi fault v e l h m =
       left = behind bs (number_bytes v) rest at e;
     }
 
-pub header_passed : (bs rest : List ℕ) (at : ℕ) (k : Link) (ds : List ℕ) → GoodTable k ds → drop at bs ≡ header_bytes k (length ds) ++ rest →
+pub header_passed : (bs rest : List ℕ) (at : ℕ) (k : Link) (ds : List ℕ) → GoodTable k ds
+    → drop at bs ≡ header_bytes k (length ds) ++ rest →
     Passed (header bs at) (record { link = k; rows = length ds }) bs rest
 unfolding header_bytes header
 header_passed bs rest at k ds g e =

@@ -77,7 +77,8 @@ unfolding read_number groups_read onto ending
 needless_group = refl
 
 pub first_table_is_clear : ClearPlan first_link delays offsets
-unfolding clear_faults blocked free hits either start second meets uses least one_more first outside and_then link_faults row_faults offset_faults
+unfolding clear_faults blocked free hits either start second meets uses least one_more first outside and_then link_faults row_faults
+    offset_faults
 first_table_is_clear = fine_clear first_link delays offsets refl
 
 pub file_bytes : Bytes file
@@ -142,7 +143,8 @@ abbrev long_link : Link
 long_link = record { period = 300; size = 2 }
 
 long_is_clear : ClearPlan long_link (0 ∷ []) (0 ∷ [])
-unfolding clear_faults blocked free hits either start second meets uses least one_more first outside and_then link_faults row_faults offset_faults
+unfolding clear_faults blocked free hits either start second meets uses least one_more first outside and_then link_faults row_faults
+    offset_faults
 long_is_clear = fine_clear long_link (0 ∷ []) (0 ∷ []) refl
 
 long_file : plan_bytes long_link (0 ∷ []) (0 ∷ []) ≡ 0x50 ∷ 0x4D ∷ 0x41 ∷ 0x01 ∷ 0xAC ∷ 0x02 ∷ 0x02 ∷ 0x01 ∷ 0x00 ∷ 0x00 ∷ []

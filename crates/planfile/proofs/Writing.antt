@@ -4,8 +4,8 @@ use mathlib.Core.List.{List, [], ◌++◌, append_assoc}
 use Prim.Native.Nat.{ℕ, ◌+◌, ◌*◌, ◌≤◌, ◌<◌}
 use native.Mathlib.Omega.{arith}
 use native.Mathlib.Numerals.{add-one}
-use lib.ListN.{length, get_or, take, drop, length-append, drop_of_length-le}
-use lib.Seq.{drop-cons, take-length}
+use lib.ListN.{length, get_or, drop, length-append, drop_of_length-le}
+use lib.Seq.{drop-cons}
 use borrow.Author.Tests.{lt-ltb, le-ltb}
 use Rattle.link.specs.Limits.{bad_length}
 use Rattle.link.specs.Range.{GoodPlan}
@@ -59,7 +59,8 @@ length_header k n =
 length_two : (x y : ℕ) → length (number_bytes x ++ number_bytes y) ≤ 8
 length_two x y = rw length-append (omega (arith, length_number x, length_number y))
 
-two_put : (x y at r₁ r₂ : ℕ) (f₀ f₁ f₂ : List ℕ) → at + 8 ≤ length f₀ → Adds f₀ at (number_bytes x) r₁ f₁ → Adds f₁ r₁ (number_bytes y) r₂ f₂
+two_put : (x y at r₁ r₂ : ℕ) (f₀ f₁ f₂ : List ℕ) → at + 8 ≤ length f₀ → Adds f₀ at (number_bytes x) r₁ f₁
+    → Adds f₁ r₁ (number_bytes y) r₂ f₂
     → Adds f₀ at (number_bytes x ++ number_bytes y) r₂ f₂
 two_put x y at r₁ r₂ f₀ f₁ f₂ room p q = and_then f₀ at (number_bytes x) (omega (arith, length_number x)) r₁ f₁ p (number_bytes y) r₂ f₂ q
 
@@ -89,7 +90,8 @@ module _ (ds os f₀ : List ℕ) (from : ℕ) (f : List ℕ) (at j : ℕ) (w : W
   next_row h l = rw (drop-cons ds j 0 h, drop-cons os j 0 l, add-one, append_assoc)
 
   pub writing_more : (f₁ f₂ : List ℕ) (r₁ r₂ : ℕ) → j < length ds → RowsFit ds os → from + rows_room ≤ length f₀
-      → Adds f at (number_bytes (get_or ds j 0)) r₁ f₁ → Adds f₁ r₁ (number_bytes (get_or os j 0)) r₂ f₂ → Writing ds os f₀ from f₂ r₂ (j + 1)
+      → Adds f at (number_bytes (get_or ds j 0)) r₁ f₁ → Adds f₁ r₁ (number_bytes (get_or os j 0)) r₂ f₂
+      → Writing ds os f₀ from f₂ r₂ (j + 1)
   writing_more f₁ f₂ r₁ r₂ h fit room p q =
       let d = get_or ds j 0 in
       let o = get_or os j 0 in
@@ -118,10 +120,6 @@ plan_put k ds os f₀ f₁ f₂ f₃ r₁ r₂ room e b c =
     let front = and_then f₀ 0 tag (omega arith) 4 f₁ (record { end = refl; written = e }) head r₁ f₂ b in
     and_then f₀ 0 (tag ++ head) (omega (arith, length_header k (length ds))) r₁ f₂ front (rows_bytes ds os) r₂ f₃ c
 
--- the kit's copy of a whole list leaves it on the buffer's front
-pub copied_whole : (xs bs old out : List ℕ) → out ≡ take (length xs) xs ++ drop (length xs) old → xs ≡ bs → out ≡ on_front bs old
-copied_whole xs bs old out e f = e ∙ rw (take-length, f)
-
--- and the answer says how many
+-- the whole file stands on the buffer's front, and the answer says how many bytes it has
 pub stored_as : {n : ℕ} {out : List ℕ} (bs old : List ℕ) → n ≡ length bs → out ≡ on_front bs old → gives (writes n) out ≡ stored bs old
 stored_as bs old e f = λ i. gives (writes (e i)) (f i)

@@ -6,7 +6,8 @@ mod groups;
 pub mod reader;
 mod writer;
 
-ghost use Rattle.std.specs.Prelude.{◌≡◌};
+ghost use Rattle.std.specs.Prelude.{◌≡◌, ◌≤◌, length};
+ghost use Rattle.ground.specs.Lent.{on_front};
 ghost use Rattle.ground.specs.Protocol.{gives};
 ghost use Rattle.planfile.specs.Answer.{written_said, write_gives};
 
@@ -16,7 +17,7 @@ use link::Link;
 use link::limits::BAD_LENGTH;
 
 // What the bytes from a place on say: a number and how many bytes it takes, or what is wrong with its form.
-#[derive(Drop)]
+#[derive(Clone, Copy)]
 enum Number {
     Value { value: u32, length: usize },
     Cut,
@@ -25,14 +26,14 @@ enum Number {
 }
 
 // A number in its range and the place after it, or a refusal.
-#[derive(Drop)]
+#[derive(Clone, Copy)]
 pub enum Taken {
     Value { value: u32, next: usize },
     Refused { number: u32, place: usize },
 }
 
 // The numbers before the rows.
-#[derive(Drop)]
+#[derive(Clone, Copy)]
 pub enum Header {
     Read {
         link: Link,
@@ -81,6 +82,14 @@ pub enum PlanWritten {
 // "PMA" and the version.
 const TAG: [u8; 4] = *b"PMA\x01";
 
+// The front of `to` is replaced by `from`.
+fn copy_bytes(from: &[u8], to: &mut [u8])
+    requires { length from.now ≤ length to.old }
+    ensures { to.new ≡ on_front from.now to.old }
+{
+    to[..from.len()].copy_from_slice(from);
+}
+
 // Writes a clear plan into the front of the buffer.
 pub fn write_plan(link: Link, delays: &[u32], offsets: &[u32], buffer: &mut [u8]) -> PlanWritten
     ensures { gives (written_said result) buffer.new
@@ -90,7 +99,7 @@ pub fn write_plan(link: Link, delays: &[u32], offsets: &[u32], buffer: &mut [u8]
         Judged::Fault { number, place } => PlanWritten::Refused { number, place },
         Judged::Fine => {
             let mut file = [0u8; ROOM];
-            bytes::copy(&TAG, &mut file);
+            copy_bytes(&TAG, &mut file);
             let at_rows = writer::put_header(link, delays.len(), &mut file, TAG.len());
             let length = writer::put_rows(delays, offsets, &mut file, at_rows);
             if buffer.len() < length {
@@ -99,7 +108,7 @@ pub fn write_plan(link: Link, delays: &[u32], offsets: &[u32], buffer: &mut [u8]
                     place: 0,
                 };
             }
-            bytes::copy(&file[..length], buffer);
+            copy_bytes(&file[..length], buffer);
             PlanWritten::File { length }
         }
     }

@@ -39,19 +39,22 @@ plan₁ = 0 ∷ 2 ∷ 6 ∷ 9 ∷ []
 
 -- "10, 2, (0 3 7): .. Meta-Offset 0 2 6"
 pub multiples : gives (said Plan) plan₁ ≡ meta_offset (link 10 2) ds₁ old
-unfolding said quick outcome placed place free_at free hits first and_then link_faults row_faults room_faults start outside either second uses
+unfolding said quick outcome placed place free_at free hits first and_then link_faults row_faults room_faults start outside either second
+    uses
     meets least one_more
 multiples = refl
 
 -- "5, 2, (0 4): First Fit 0 3."
 pub fits : gives (said Plan) (0 ∷ 3 ∷ 9 ∷ 9 ∷ []) ≡ first_fit (link 5 2) (0 ∷ 4 ∷ []) old
-unfolding said quick outcome placed place free_at free hits first and_then link_faults row_faults room_faults start outside either second uses
+unfolding said quick outcome placed place free_at free hits first and_then link_faults row_faults room_faults start outside either second
+    uses
     meets least one_more
 fits = refl
 
 -- "4, 1, (0 2 1 1): First Fit .. 13 at row 2"
 gives_up : gives (said (Refused 13 2)) old ≡ first_fit (link 4 1) ds₂ old
-unfolding said quick outcome placed place free_at free hits first and_then link_faults row_faults room_faults start outside either second uses
+unfolding said quick outcome placed place free_at free hits first and_then link_faults row_faults room_faults start outside either second
+    uses
     meets least one_more
 gives_up = refl
 

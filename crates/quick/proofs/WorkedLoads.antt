@@ -115,7 +115,8 @@ three_delays = refl
 
 -- computed: "6, 2, (0 3)" has three multiples and six offsets, "12, 2, (0 2 7)" has six multiples, 11, 2, (0 1 6) eleven offsets
 pub three_multiples : gives (said (Refused 13 1)) old ≡ meta_offset (link 6 2) (0 ∷ 3 ∷ []) old
-unfolding said quick outcome placed place free_at free hits first and_then link_faults row_faults room_faults start outside either second uses
+unfolding said quick outcome placed place free_at free hits first and_then link_faults row_faults room_faults start outside either second
+    uses
     meets least one_more
 three_multiples = refl
 
@@ -131,16 +132,19 @@ pub lost_to_row_0 : sum (named_for 6 2 (0 ∷ 3 ∷ []) stuck₁.offsets 2 3 1) 
 lost_to_row_0 = all_named 6 2 (0 ∷ 3 ∷ []) 2 3 1 stuck₁
 
 pub six_offsets : gives (said (Refused 13 1)) old ≡ first_fit (link 6 2) (0 ∷ 3 ∷ []) old
-unfolding said quick outcome placed place free_at free hits first and_then link_faults row_faults room_faults start outside either second uses
+unfolding said quick outcome placed place free_at free hits first and_then link_faults row_faults room_faults start outside either second
+    uses
     meets least one_more
 six_offsets = refl
 
 pub six_multiples : gives (said (Refused 13 2)) old ≡ meta_offset (link 12 2) (0 ∷ 2 ∷ 7 ∷ []) old
-unfolding said quick outcome placed place free_at free hits first and_then link_faults row_faults room_faults start outside either second uses
+unfolding said quick outcome placed place free_at free hits first and_then link_faults row_faults room_faults start outside either second
+    uses
     meets least one_more
 six_multiples = refl
 
 pub eleven_computed : gives (said (Refused 13 2)) old ≡ first_fit (link 11 2) (0 ∷ 1 ∷ 6 ∷ []) old
-unfolding said quick outcome placed place free_at free hits first and_then link_faults row_faults room_faults start outside either second uses
+unfolding said quick outcome placed place free_at free hits first and_then link_faults row_faults room_faults start outside either second
+    uses
     meets least one_more
 eleven_computed = refl

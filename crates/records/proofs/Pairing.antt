@@ -1,10 +1,10 @@
 -- How the pairs of one row more come from those of the rows before: a collision stands, a row out of range is skipped, and the pair
 -- test says whether any other row meets one before it, as in a turn of the checker's own walk. Assumes nothing.
-use mathlib.Core.Path.{◌≡◌, sym, ◌∙◌}
+use mathlib.Core.Path.{◌≡◌}
 use mathlib.Core.List.{List}
 use Prim.Native.Nat.{ℕ, ◌+◌, ◌≤◌, ◌<◌}
 use native.Mathlib.Omega.{arith}
-use lib.ListN.{length, take, get_or, set, length-map}
+use lib.ListN.{length, take, get_or, set}
 use mir.Val.{Val}
 use denote.Laws.{Is}
 use borrow.Author.Count.{below_none}
@@ -25,11 +25,7 @@ use Rattle.records.specs.contracts.Pairs as P
 
 -- what owning the pairs tells: how long their lists are, so that a row below 64 has room in them
 pub rooms : (s : Pairs) (vs : List Val) → Is P.the_row s vs → (length s.firsts ≡ max_rows) × (length s.seconds ≡ max_rows)
-rooms s vs is =
-    (sym (length-map s.firsts (λ v. v)) ∙ is.1.1.0.1.0.1, sym (length-map s.seconds (λ v. v)) ∙ is.1.1.1.0.1.0.1)
-
-pub fronts : (s : Pairs) (vs : List Val) → Is P.the_row s vs → (i : ℕ) → i < max_rows → (i ≤ length s.firsts) × (i ≤ length s.seconds)
-fronts s vs is i h = (omega (arith, (rooms s vs is).0), omega (arith, (rooms s vs is).1))
+rooms s vs is = (is.1.1.0.1.0.1, is.1.1.1.0.1.0.1)
 
 pub nothing_met : (p l : ℕ) (rs : List Record) (s : Pairs) → s.met ≡ Nobody → Paired p l rs 0 s
 nothing_met p l rs s e =

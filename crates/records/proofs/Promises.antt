@@ -27,7 +27,8 @@ module _ (k : Link) (rs : List Record) (r : Checked) (e : said r ≡ answer k (d
   agrees ds os s d o h = no_second s (rw (d, o) h)
 
   -- so the checker's promises are its own
-  pub clear_exactly : (r ≡ Clearly) ↔ (GoodPlan k (delays_of rs) (offsets_of rs) × Clear k.period (span_of k) (delays_of rs) (offsets_of rs))
+  pub clear_exactly : (r ≡ Clearly)
+      ↔ (GoodPlan k (delays_of rs) (offsets_of rs) × Clear k.period (span_of k) (delays_of rs) (offsets_of rs))
   clear_exactly = checker.clear_exactly k (delays_of rs) (offsets_of rs) r e
 
   pub collision_is_first : (i j n : ℕ) → r ≡ Collision i j n

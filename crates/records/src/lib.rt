@@ -15,7 +15,7 @@ use link::limits::{BAD_DELAY, BAD_OFFSET, BAD_ROWS, MAX_DELAY, MAX_ROWS};
 use link::{Link, Met};
 
 #[repr(C)]
-#[derive(Drop)]
+#[derive(Clone, Copy)]
 pub struct Record {
     pub delay: u32,
     pub offset: u32,
@@ -85,7 +85,7 @@ fn paired(period: u32, span: u32, pairs: Pairs, i: usize, row: Record) -> Pairs
     requires { i < max_rows }
     ensures { (rs : List Record) → RowAt rs i row → Paired period span rs i pairs → Paired period span rs (i + 1) result }
 {
-    let before = pairs.met;
+    let before = &pairs.met;
     if let Met::Row { .. } = before {
         return pairs;
     }
@@ -125,7 +125,8 @@ fn seen_with(link: Link, seen: Seen, i: usize, row: Record) -> Seen
 
 // The answer on n records: 5, 6, 8, 7, 17, then the collision, or clear.
 fn answer_of(link: Link, n: usize, seen: Seen) -> Checked
-    ensures { (rs : List Record) → length rs ≡ n → Shows link rs (to_read n) seen → said result ≡ answer link (delays_of rs) (offsets_of rs) }
+    ensures { (rs : List Record) → length rs ≡ n → Shows link rs (to_read n) seen
+        → said result ≡ answer link (delays_of rs) (offsets_of rs) }
 {
     if let Judged::Fault { number, place } = link::judge::link_values(link) {
         return Checked::Refused { number, place };

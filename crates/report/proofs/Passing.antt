@@ -77,7 +77,8 @@ module _ {p t : ℕ} {xs : List ℕ} (h : Placed p t xs) {i free k w : ℕ} (v :
           record {
             row = omega arith;
             left = less p t i free v.left fits.0;
-            number = add-one k ∙ ap suc v.number ∙ sym (rw (add-one i) (count_in_lem _ i (lt-ltb 0 (behind p t xs i) (omega (arith, run)))));
+            number = add-one k ∙ ap suc v.number
+                ∙ sym (rw (add-one i) (count_in_lem _ i (lt-ltb 0 (behind p t xs i) (omega (arith, run)))));
             none_wider = below_more (λ j. behind p t xs j ≤ max r w) i (λ j m. omega (arith, v.none_wider j m)) (omega (arith, run));
             as_wide = λ _.
                 ⊎_elim (λ m. earlier (omega arith) (v.as_wide (omega arith))) (λ m. (i, omega arith, omega (arith, run))) (lt_or_ge r w);

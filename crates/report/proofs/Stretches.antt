@@ -156,10 +156,13 @@ module _ (q : ℕ → Bool) (p : ℕ) where
           sym (mod-eq_of_lt v.inside) ∙ e ∙ mod-eq_of_lt w.inside
 
 -- "the length of the widest": no run is wider, and one is as wide
-pub none_wider : (l : List Run) (r : Run) → Memᴰ r l → r.wide ≤ widest_of l
+widest_has : (r : Run) (l : List Run) → Memᴰ r l → r.wide ≤ widest_of l
 unfolding widest_of
-none_wider l r (Memᴰ.head {x} {xs} e) = omega (arith, ap (λ (y : Run). y.wide) e)
-none_wider l r (Memᴰ.tail {x} {xs} h) = omega (arith, none_wider xs r h)
+widest_has r l (Memᴰ.head {x} {xs} e) = omega (arith, ap (λ (y : Run). y.wide) e)
+widest_has r l (Memᴰ.tail {x} {xs} h) = omega (arith, widest_has r xs h)
+
+pub none_wider : (l : List Run) (r : Run) → Memᴰ r l → r.wide ≤ widest_of l
+none_wider l r = widest_has r l
 
 pub widest_upto : (l : List Run) (k : ℕ) → ((r : Run) → Memᴰ r l → r.wide ≤ k) → widest_of l ≤ k
 unfolding widest_of

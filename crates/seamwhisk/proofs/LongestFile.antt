@@ -39,7 +39,8 @@ unfolding number_bytes
 bytes_of more x h = few 3 more x h
 
 -- seven bytes a row: delays have at most four, offsets at most three
-rows_bytes_lem : (ds os : List ℕ) → ((i : ℕ) → i < length ds → get_or ds i 0 ≤ max_delay) → ((i : ℕ) → i < length os → get_or os i 0 < 1000000)
+rows_bytes_lem : (ds os : List ℕ) → ((i : ℕ) → i < length ds → get_or ds i 0 ≤ max_delay) → ((i : ℕ) → i < length os
+    → get_or os i 0 < 1000000)
     → length (rows_bytes ds os) ≤ 7 * length ds
 unfolding rows_bytes limit
 rows_bytes_lem [] os d o = omega arith

@@ -1,4 +1,4 @@
-// The entry points for C and Rust: numbers and slices in, an answer's numbers out, in the paper's order.
+// The entry points for C and Rust: numbers and slices in, an answer's numbers out, in the paper's order. `seamwhisk_c` exports them.
 #![tactic(auto)]
 
 mod fill;
@@ -46,8 +46,7 @@ fn checked(answer: &mut [u64; 5], r: Checked)
     }
 }
 
-#[unsafe(no_mangle)]
-pub extern "C" fn seamwhisk_check(
+pub fn seamwhisk_check(
     period: u32,
     size: u32,
     delays: &[u32],
@@ -64,8 +63,7 @@ pub extern "C" fn seamwhisk_check(
 }
 
 // The checker over a list of records.
-#[unsafe(no_mangle)]
-pub extern "C" fn seamwhisk_check_records(
+pub fn seamwhisk_check_records(
     period: u32,
     size: u32,
     records: &[Record],
@@ -88,8 +86,7 @@ fn planned(answer: &mut [u64; 2], r: Planned)
     }
 }
 
-#[unsafe(no_mangle)]
-pub extern "C" fn seamwhisk_first_fit(
+pub fn seamwhisk_first_fit(
     period: u32,
     size: u32,
     delays: &[u32],
@@ -105,8 +102,7 @@ pub extern "C" fn seamwhisk_first_fit(
     )
 }
 
-#[unsafe(no_mangle)]
-pub extern "C" fn seamwhisk_meta_offset(
+pub fn seamwhisk_meta_offset(
     period: u32,
     size: u32,
     delays: &[u32],
@@ -122,8 +118,7 @@ pub extern "C" fn seamwhisk_meta_offset(
     )
 }
 
-#[unsafe(no_mangle)]
-pub extern "C" fn seamwhisk_one_slot(
+pub fn seamwhisk_one_slot(
     period: u32,
     size: u32,
     delays: &[u32],
@@ -139,8 +134,7 @@ pub extern "C" fn seamwhisk_one_slot(
     )
 }
 
-#[unsafe(no_mangle)]
-pub extern "C" fn seamwhisk_exact(
+pub fn seamwhisk_exact(
     period: u32,
     size: u32,
     delays: &[u32],
@@ -159,15 +153,13 @@ pub extern "C" fn seamwhisk_exact(
     }
 }
 
-#[unsafe(no_mangle)]
-pub extern "C" fn seamwhisk_ceiling(rows: usize) -> u64
+pub fn seamwhisk_ceiling(rows: usize) -> u64
     ensures { result ≡ ceiling_up_to rows }
 {
     search::ceiling(rows)
 }
 
-#[unsafe(no_mangle)]
-pub extern "C" fn seamwhisk_read_table(text: &[u8], delays: &mut [u32], answer: &mut [u64; 5])
+pub fn seamwhisk_read_table(text: &[u8], delays: &mut [u32], answer: &mut [u64; 5])
     ensures { gives answer.new delays.new
         ≡ as_numbers read_as (reading text.now delays.old) }
 {
@@ -187,8 +179,7 @@ pub extern "C" fn seamwhisk_read_table(text: &[u8], delays: &mut [u32], answer: 
 }
 
 // The answers to joined texts are a flat list, four numbers each: no slice of structs can be lent.
-#[unsafe(no_mangle)]
-pub extern "C" fn seamwhisk_plan_texts_flat(
+pub fn seamwhisk_plan_texts_flat(
     texts: &[u8],
     budget: u64,
     answers: &mut [u64],
@@ -208,8 +199,7 @@ pub extern "C" fn seamwhisk_plan_texts_flat(
     }
 }
 
-#[unsafe(no_mangle)]
-pub extern "C" fn seamwhisk_write_plan(
+pub fn seamwhisk_write_plan(
     period: u32,
     size: u32,
     delays: &[u32],
@@ -228,8 +218,7 @@ pub extern "C" fn seamwhisk_write_plan(
     }
 }
 
-#[unsafe(no_mangle)]
-pub extern "C" fn seamwhisk_read_plan(
+pub fn seamwhisk_read_plan(
     file: &[u8],
     delays: &mut [u32],
     offsets: &mut [u32],
@@ -255,8 +244,7 @@ pub extern "C" fn seamwhisk_read_plan(
     }
 }
 
-#[unsafe(no_mangle)]
-pub extern "C" fn seamwhisk_report(
+pub fn seamwhisk_report(
     period: u32,
     size: u32,
     delays: &[u32],

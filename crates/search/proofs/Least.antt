@@ -67,10 +67,17 @@ module _ (r : Rules) where
   build_is_whole {s = s} done = whole_done s
   build_is_whole (onward {u = u} {s = s} {k = k} {q = q} m g b) = whole_onward u s k q g (build_is_whole b)
 
+  -- t is where the step k leads
+  sequence_from : {u : ℕ} {s t : List ℕ} {k : Step} {q : List Step} → Memᴰ k (r.steps s) → r.good s k ≡ true → Build r u t q
+      → t ≡ r.put s k → Sequence r s (k ∷ q) × (length (k ∷ q) ≤ suc u)
+  sequence_from m g done e = (last m, omega arith)
+  sequence_from m g (onward n h b) e =
+      let w = sequence_from n h b refl in
+      (onward m g (rw (← e) w.0), omega (arith, w.1))
+
   sequence_of : {u : ℕ} {s : List ℕ} {k : Step} {q : List Step} → Memᴰ k (r.steps s) → r.good s k ≡ true → Build r u (r.put s k) q
       → Sequence r s (k ∷ q) × (length (k ∷ q) ≤ suc u)
-  sequence_of m g done = (last m, omega arith)
-  sequence_of m g (onward n h b) = let w = sequence_of n h b in (onward m g w.0, omega (arith, w.1))
+  sequence_of m g b = sequence_from m g b refl
 
   build_in : {u : ℕ} {s : List ℕ} {q : List Step} → Build r u s q → Memᴰ q ([] ∷ sequences r u s)
   build_in done = Memᴰ.head refl

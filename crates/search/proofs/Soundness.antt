@@ -101,7 +101,8 @@ module _ (p l : ℕ) (ds : List ℕ) (some : 0 < p) (lp : l ≤ p) where
           (ok c i j (omega arith) k (λ z. omega arith) x y))
 
   -- clear offsets, row by row
-  pub plan_of : (os : List ℕ) → ((i : ℕ) → i < length ds → get_or os i 0 < p) → Clear p l ds os → Plan p l ds (length ds) (λ i. get_or os i 0)
+  pub plan_of : (os : List ℕ) → ((i : ℕ) → i < length ds → get_or os i 0 < p) → Clear p l ds os
+      → Plan p l ds (length ds) (λ i. get_or os i 0)
   unfolding start
   plan_of os low cl = record {
     inside = low;

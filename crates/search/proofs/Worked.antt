@@ -111,5 +111,6 @@ third_ceiling t new a = ceiling_enough (table 3 1) tight 20 lent t new (omega ar
 
 pub third_exactly : (r : Answer) (new : List ℕ) → Answers (table 3 1) tight 20 lent r new
     → ((os : List ℕ) × ClearChoice (table 3 1) tight os) ↔ ((t : ℕ) × (r ≡ Plan t))
-unfolding ceiling_up_to ceiling_of choices products product exact_faults room_faults row_faults link_faults and_then outside first least one_more
+unfolding ceiling_up_to ceiling_of choices products product exact_faults room_faults row_faults link_faults and_then outside first least
+    one_more
 third_exactly r new a = plan_exactly_when_clear (table 3 1) tight 20 lent r new refl (omega arith) a

@@ -2,7 +2,7 @@
 -- call it has the tokens again and what the callee's clause says. Assumes nothing.
 use mathlib.Core.List.{List, [], ◌∷◌}
 use seplogic.Ra.Ura.{Ura}
-use mir.Syntax.{Name, Place, Opd as Operand, Body, seq, call}
+use mir.Syntax.{Callee as Name, Place, Opd as Operand, Body, seq, call}
 use mir.Val.{Val}
 use base.Logic.{ent, sep, emp}
 use prog.Wp.{Env, Calls, Loops}

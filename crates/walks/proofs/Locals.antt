@@ -6,7 +6,7 @@ use mathlib.Core.List.{List, [], ◌∷◌, ◌++◌}
 use Prim.Native.Nat.{ℕ, zero, suc, ◌+◌, ◌*◌}
 use lib.ListN.{length}
 use seplogic.Ra.Ura.{Ura}
-use seplogic.Ra.TreeShare.{full_share}
+use base.Fraction.{full_share}
 use mir.Syntax.{Ty, Local, local}
 use mir.Val.{Val}
 use base.Logic.{SProp, ent, sep, emp, id⊢, via, assoc∗, emp∗, snd∗, mono_r}
@@ -111,7 +111,8 @@ module _ {M : Type 1} {𝓤 : Ura M} {𝓛 : Logic 𝓤} {K : Type 0} where
   pub alloc_all : {Γ : List (Item 𝓤)} → K → (ls : List Local) {Kt : Env 𝓤 H → Goal 𝓤 H}
       → ((bs : Spots ls) → Seq K 𝓛 (Rooms 𝓤 ls bs Γ) (Kt (env_of ls bs))) → Seq K 𝓛 Γ (allocs ls Kt)
   alloc_all t [] k = alloc0 t $ k tt
-  alloc_all t (local τ h ∷ ls) k = alloc1 t (λ b. alloc_all t ls (λ bs. k (b, bs)))
+  alloc_all {Γ = Γ} t (local τ h ∷ ls) k =
+      alloc1 t (λ b. alloc_all {Γ = ‵ (froom τ b 0) ∷ ‵ (fdies τ b) ∷ Γ} t ls (λ bs. k (b, bs)))
 
   -- the locals hold os, and stand behind the first n entries
   pub free_slots : {Γ : List (Item 𝓤)} → K → (n : ℕ) {E : Env 𝓤 H} {g : Goal 𝓤 H} (os : List (Option Val))

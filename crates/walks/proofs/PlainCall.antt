@@ -2,7 +2,7 @@
 -- learns what the callee's clause says of its result. Assumes nothing.
 use mathlib.Core.List.{List, [], ◌∷◌}
 use seplogic.Ra.Ura.{Ura}
-use mir.Syntax.{Name, Place, Opd as Operand, Body, seq, call}
+use mir.Syntax.{Callee as Name, Place, Opd as Operand, Body, seq, call}
 use mir.Val.{Val}
 use base.Logic.{ent, emp, via}
 use base.Fml.{ftrue}

@@ -1,5 +1,5 @@
 -- A fault of the judging is the answer; else the planner goes by each offset of the period.
-use mathlib.Core.Path.{sym, ◌∙◌}
+use mathlib.Core.Path.{sym}
 use Rattle.link.proofs.Accepted.{good_room}
 use Rattle.quick.specs.Answer.{said, quick}
 use Rattle.quick.proofs.Entries.{each_offset}
@@ -9,7 +9,7 @@ use Rattle.quick.proofs.first_fit.Goals as goal
 pub plan-requires : goal.plan-requires
 plan-requires c =
     let g = good_room _ _ _ (sym c.in-Fine.ensures) in
-    rw c.span.ensures ((g.0.rows_high, g.1), each_offset _ _ g.0)
+    rw c.span.ensures (record { delays_len_bound = (g.0.rows_high, g.1); ways = each_offset _ _ g.0 })
 
 pub returns-in-Fault : goal.returns-in-Fault
 unfolding said quick
@@ -18,5 +18,4 @@ returns-in-Fault c = refused _ _ (sym c.in-Fault.ensures)
 pub returns-in-Fine : goal.returns-in-Fine
 unfolding quick
 returns-in-Fine c =
-    let fine = sym c.planner.ensures ∙ c.enum_told-1.given.1 in
-    goes_on _ fine (rw c.span.ensures at c.plan.ensures)
+    goes_on _ (sym c.in-Fine.ensures) (rw c.span.ensures at c.plan.ensures)

@@ -1,8 +1,8 @@
 use mathlib.Core.Path.{refl, sym, ap, ◌∙◌}
-use Prim.Native.Nat.{◌-◌, ◌≤◌}
+use Prim.Native.Nat.{◌≤◌}
 use native.Mathlib.Omega.{arith}
 use native.Mathlib.Nat.{mul-le-mul_right}
-use Rattle.link.specs.Rows.{second, is_nobody}
+use Rattle.link.specs.Rows.{is_nobody}
 use Rattle.ground.proofs.Hunting.{from_at, between}
 use Rattle.link.proofs.Meeting.{second_low}
 use Rattle.quick.proofs.Candidates.{next_low, next_is, next_second, opens}

@@ -1,5 +1,4 @@
 use mathlib.Core.Path.{◌≡◌, refl, sym}
-use Prim.Native.Nat.{◌-◌}
 use native.Mathlib.Omega.{arith}
 use lib.ListN.{length}
 use lib.Seq.{length-take-le}
@@ -19,7 +18,10 @@ pub slice_bounds-first_free-end-in-loop-j : goal.slice_bounds-first_free-end-in-
 slice_bounds-first_free-end-in-loop-j c = sym (length-take-le _ _ (omega arith))
 
 pub first_free-c-requires : goal.first_free-c-requires
-first_free-c-requires c = (c.requires.ways, (omega arith, same_front c.loop-j.j c.loop-j.firsts c.loop-j.seconds (omega arith) (omega arith)))
+first_free-c-requires c = record {
+  ways = c.requires.ways;
+  from_le_count = (omega arith, same_front c.loop-j.j c.loop-j.firsts c.loop-j.seconds (omega arith) (omega arith));
+}
 
 pub returns-then-c-count : goal.returns-then-c-count
 unfolding said outcome

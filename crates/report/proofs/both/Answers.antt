@@ -1,7 +1,5 @@
 use mathlib.Core.Path.{refl, sym}
-use Prim.Native.Nat.{◌-◌}
 use native.Mathlib.Omega.{arith}
-use lib.ListN.{length}
 use lib.Seq.{length-take-le}
 use Rattle.report.proofs.Crossings.{none_yet, one_more, fits, placed, firsts, seconds, tells}
 use Rattle.report.proofs.both.Goals as goal
@@ -25,4 +23,5 @@ pub crossing-second-requires : goal.crossing-second-requires
 crossing-second-requires c = placed c.requires.1 c.requires.0 c.requires.2 (seconds c.requires.1 c.loop-i.invariant (omega arith))
 
 pub returns : goal.returns
-returns c = tells _ (firsts c.requires.1) (seconds c.requires.1 c.loop-i.invariant (omega arith)) c.crossing-first.ensures c.crossing-second.ensures
+returns c =
+    tells _ (firsts c.requires.1) (seconds c.requires.1 c.loop-i.invariant (omega arith)) c.crossing-first.ensures c.crossing-second.ensures

@@ -1,7 +1,7 @@
 -- Invariant: `seconds` has the second starts of the rows before i.
 use Prim.Native.Nat.{◌-◌}
 use lib.ListN.{length}
-use Rattle.report.proofs.Crossings.{Seconds, seconds}
+use Rattle.report.proofs.Crossings.{Seconds}
 use Rattle.report.proofs.both.Given as goal
 
 abbrev pub invariant-loop-i : goal.invariant-loop-i

@@ -1,4 +1,3 @@
-use Prim.Native.Nat.{◌-◌}
 use native.Mathlib.Omega.{arith}
 use Rattle.report.proofs.Passing.{setting_out, fits, over_none, over_run, arrived}
 use Rattle.report.proofs.crossing.Goals as goal

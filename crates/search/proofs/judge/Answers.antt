@@ -7,7 +7,8 @@ use Rattle.search.proofs.judge.Goals as goal
 
 pub returns-then-delays-gt-MAX_EXACT_ROWS : goal.returns-then-delays-gt-MAX_EXACT_ROWS
 unfolding exact_faults
-returns-then-delays-gt-MAX_EXACT_ROWS c = front_pass _ _ _ (sym c.in-Fine.ensures) (hit _ _ _ _ (lt-ltb _ _ c.if-delays-gt-MAX_EXACT_ROWS.true))
+returns-then-delays-gt-MAX_EXACT_ROWS c =
+    front_pass _ _ _ (sym c.in-Fine.ensures) (hit _ _ _ _ (lt-ltb _ _ c.if-delays-gt-MAX_EXACT_ROWS.true))
 
 pub returns-in-Fault : goal.returns-in-Fault
 unfolding exact_faults
@@ -15,4 +16,5 @@ returns-in-Fault c = front_hit _ _ _ _ (sym c.in-Fault.ensures)
 
 pub returns-else-delays-gt-MAX_EXACT_ROWS : goal.returns-else-delays-gt-MAX_EXACT_ROWS
 unfolding exact_faults
-returns-else-delays-gt-MAX_EXACT_ROWS c = front_pass _ _ _ (sym c.in-Fine.ensures) (pass _ _ _ _ (le-ltb _ _ c.if-delays-gt-MAX_EXACT_ROWS.false) fine)
+returns-else-delays-gt-MAX_EXACT_ROWS c =
+    front_pass _ _ _ (sym c.in-Fine.ensures) (pass _ _ _ _ (le-ltb _ _ c.if-delays-gt-MAX_EXACT_ROWS.false) fine)

@@ -1,4 +1,3 @@
-use Prim.Native.Nat.{◌-◌}
 use native.Mathlib.Omega.{arith}
 use Rattle.search.proofs.Numbers.{is_step_lem, skip_row, skip_rest, skip_pair}
 use Rattle.search.proofs.next_step.Goals as goal
@@ -25,4 +24,5 @@ pub loop-k-preserved : goal.loop-k-preserved
 loop-k-preserved c = (omega arith, omega arith, skip_pair _ _ _ _ c.loop-k.k c.loop-k.invariant.2 c.if-firsts-i.false)
 
 pub returns : goal.returns
-returns c = record { low = c.loop-k.invariant.0; high = c.loop-k.invariant.1; skipped = c.loop-k.invariant.2; lands = λ q. absurd (omega arith) }
+returns c =
+    record { low = c.loop-k.invariant.0; high = c.loop-k.invariant.1; skipped = c.loop-k.invariant.2; lands = λ q. absurd (omega arith) }

@@ -11,12 +11,11 @@ use Rattle.search.proofs.Planning.{spent_outcome, in_array}
 use Rattle.search.proofs.plan.Goals as goal
 
 pub descend-requires : goal.descend-requires
-descend-requires c =
-    (
-      turns_table _ _ c.span-l.ensures _ c.reduced-turns.result c.requires.0 c.reduced-turns.ensures,
-      begin_starts _ _ _ c.requires.0.rows_high
-          (low_delays _ _ c.span-l.ensures _ c.reduced-turns.result c.requires.0 c.reduced-turns.ensures 0),
-    )
+descend-requires c = (
+  turns_table _ _ c.span-l.ensures _ c.reduced-turns.result c.requires.0 c.reduced-turns.ensures,
+  begin_starts _ _ _ c.requires.0.rows_high
+      (low_delays _ _ c.span-l.ensures _ c.reduced-turns.result c.requires.0 c.reduced-turns.ensures 0),
+)
 
 pub slice_bounds-copy_out-end : goal.slice_bounds-copy_out-end
 slice_bounds-copy_out-end c = sym (length-take-le _ _ (in_array c.descend.ensures.starts.xs_length c.requires.0.rows_high))

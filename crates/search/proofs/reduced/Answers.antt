@@ -1,5 +1,4 @@
 use mathlib.Core.Path.{refl}
-use Prim.Native.Nat.{◌-◌}
 use native.Mathlib.Omega.{arith}
 use Rattle.search.proofs.Reducing.{reduced_none, reduced_more, reduced_all}
 use Rattle.search.proofs.reduced.Goals as goal

@@ -12,7 +12,7 @@ last_line-requires c = sym c.is_last.ensures ∙ c.if-is_last.true
 pub returns-then-is_last : goal.returns-then-is_last
 returns-then-is_last c =
     last_answer _ _ _ c.line_end-end.ensures.0 (sym c.is_cut.ensures ∙ c.if-is_cut.false) _ _
-    (sym c.is_last.ensures ∙ c.if-is_last.true) c.last_Line.ensures
+    (sym c.is_last.ensures ∙ c.if-is_last.true) c.last_line.ensures
 
 pub returns : goal.returns
 returns c =

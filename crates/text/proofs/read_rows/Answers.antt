@@ -1,5 +1,4 @@
 use mathlib.Core.Path.{sym, ◌∙◌}
-use Prim.Native.Nat.{◌-◌}
 use native.Mathlib.Omega.{arith}
 use Rattle.text.proofs.Walk.{link_there, start, broken, row_room, next, whole}
 use Rattle.text.proofs.read_rows.Goals as goal

@@ -7,10 +7,11 @@ use Rattle.text.proofs.Answers.{rows_few, text_broken, text_whole}
 use Rattle.text.proofs.read_text.Goals as goal
 
 pub slice_bounds-kept-end : goal.slice_bounds-kept-end
-slice_bounds-kept-end c = omega (arith, rows_few _ _ _ _ _ (rw c.in-Whole.is at c.read_lines.ensures), c.read_lines.auto.1.0)
+slice_bounds-kept-end c = omega (arith, rows_few _ _ _ _ _ (rw c.in-Whole.is at c.read_lines.ensures), c.read_lines.auto.kept)
 
 pub slice_bounds-copy_out-end : goal.slice_bounds-copy_out-end
-slice_bounds-copy_out-end c = sym (length-take-le _ _ (omega (arith, rows_few _ _ _ _ _ (rw c.in-Whole.is at c.read_lines.ensures), c.read_lines.auto.1.0)))
+slice_bounds-copy_out-end c =
+    sym (length-take-le _ _ (omega (arith, rows_few _ _ _ _ _ (rw c.in-Whole.is at c.read_lines.ensures), c.read_lines.auto.kept)))
 
 pub copy_out-requires : goal.copy_out-requires
 copy_out-requires c =

@@ -1,6 +1,6 @@
 use mathlib.Core.Path.{ap}
-use mathlib.Core.Bool.{Bool, false, not, and-false}
-use Prim.Native.Nat.{ℕ, ◌-◌}
+use mathlib.Core.Bool.{Bool, not, and-false}
+use Prim.Native.Nat.{ℕ}
 use native.Mathlib.Omega.{arith}
 use lib.Dec.{eqb}
 use lib.ListN.{length, get_or}

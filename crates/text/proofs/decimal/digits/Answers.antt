@@ -1,5 +1,4 @@
 use mathlib.Core.Path.{sym, ◌∙◌}
-use Prim.Native.Nat.{◌-◌}
 use native.Mathlib.Omega.{arith}
 use Rattle.text.proofs.Decimals.{none_counted, digit, counted_low, counted_more}
 use Rattle.text.proofs.decimal.digits.Goals as goal

@@ -3,7 +3,6 @@ use Prim.Native.Nat.{◌-◌, ◌≤◌}
 use lib.ListN.{length}
 use Rattle.text.specs.Decimal.{max_digits}
 use Rattle.text.specs.Steps.{Counted}
-use Rattle.text.proofs.Decimals.{digit}
 use Rattle.text.proofs.decimal.digits.Given as goal
 
 abbrev pub invariant-loop-digits : goal.invariant-loop-digits

@@ -1,0 +1,22 @@
+-- The two functions call each other. What falls is the work that is left: the rows not yet placed, then the candidates of the row at hand.
+-- Invariant: an answer to the candidates from k on, with the tests that are left, is an answer to the whole.
+use Prim.Native.Nat.{ℕ, ◌+◌, ◌-◌, ◌*◌}
+use Rattle.link.specs.Limits.{max_rows}
+use Rattle.search.proofs.Looping.{Going}
+use Rattle.search.proofs.+descend_try_step.Given as goal
+
+-- the numbers of steps
+abbrev pub candidates : ℕ
+candidates = max_rows * (2 * max_rows)
+
+abbrev pub decreases-descend : goal.decreases-descend
+decreases-descend l = l.unplaced * (candidates + 1)
+
+abbrev pub decreases-try_step : goal.decreases-try_step
+decreases-try_step l = l.unplaced * (candidates + 1) + (candidates - l.k)
+
+abbrev pub invariant-descend-loop-k : goal.invariant-descend-loop-k
+invariant-descend-loop-k l = Going l.p l.l l.delays l.rows l.unplaced l.budget l.fn.firsts l.firsts l.seconds l.left l.k
+
+abbrev pub decreases-descend-loop-k : goal.decreases-descend-loop-k
+decreases-descend-loop-k l = l.rows * (2 * max_rows) - l.k
