@@ -1,4 +1,4 @@
-// The file reader: it keeps the caller's bytes and its own place in them, a thin struct over the covered steps of `planfile`.
+// The file reader: it keeps the caller's bytes and its own place in them, a thin struct over the steps of `planfile`.
 #![tactic(auto)]
 
 ghost use Rattle.std.specs.Prelude.{◌≡◌, length};
@@ -51,7 +51,7 @@ pub fn read_number<'a>(r: FileReader<'a>, low: u32, high: u32, fault: u32) -> Nu
 
 // Reads a plan into the fronts of the two lists: the header at the reader's place, and the rest from where it stands after that.
 pub fn read_plan(bytes: &[u8], delays: &mut [u32], offsets: &mut [u32]) -> PlanRead
-    ensures offsets_after { gives (read_said result) (lists delays.new offsets.new)
+    ensures answer { gives (read_said result) (lists delays.new offsets.new)
         ≡ read_gives bytes.now delays.old offsets.old }
     ensures file_of { IsFileOf result bytes.now delays.new offsets.new }
 {

@@ -1,0 +1,14 @@
+-- The reader that is opened stands after the tag of the caller's bytes; the header there, and the rest from where the next reader
+-- stands, are the whole file.
+use Rattle.planfile.proofs.Joining.{in_range, as_read}
+use Rattle.filereader.proofs.read_plan.Goals as goal
+
+pub read_rest-requires : goal.read_rest-requires
+read_rest-requires c = in_range _ _ _ c.read_header-head.ensures.0
+
+pub returns : goal.returns
+returns c =
+    let o = c.open-start.ensures in
+    let head = rw (o.0, o.1) at c.read_header-head.ensures in
+    let both = as_read _ _ _ _ _ _ _ _ head.0 (rw o.1 at c.after_header.ensures) head.1 (rw o.0 at c.read_rest.ensures) in
+    record { answer = both.0; file_of = both.1 }
