@@ -9,13 +9,13 @@ ghost use Rattle.replay.specs.Counts.{IsPrefixLen};
 
 use std::io::{Input, Read};
 
-const BLOCK: usize = 65536;
+const LARGE_BUFFER: usize = 65536;
 
 // 4 megabytes of cases.
 const MOST_BLOCKS: usize = 64;
 
 fn main(rt: HostRuntime) {
-    let mut space = [0u8; BLOCK];
+    let mut space = [0u8; LARGE_BUFFER];
     let mut held: usize = 0;
     let mut turn: usize = 0;
     while turn < MOST_BLOCKS {
@@ -319,7 +319,7 @@ fn read_plan(rt: &impl Print, file: &[u8], delays: &mut [u32], offsets: &mut [u3
 // A budget, joined texts and two lent lists, for their answers and their offsets.
 fn texts_and_rooms(rt: &impl Print, line: &[u8], at: usize) {
     let budget = cases::number(line, at);
-    let mut bytes = [0u8; BLOCK];
+    let mut bytes = [0u8; LARGE_BUFFER];
     let texts = cases::parts(line, budget.next, &mut bytes);
     let mut xs = [0u64; 132];
     let answers = cases::lent_numbers(line, texts.next, &mut xs);
