@@ -80,7 +80,8 @@ own_lines : (z old : List ℕ) (n p : ℕ) (new : List ℕ) → length z ≤ max
 unfolding reading read_said read_faults accepted
 own_lines z old n p new short low e = judged (told (keeping refusing old) (first (read_faults z (length old))) e)
   where
-    lines : (j : Judged) → first (text_faults z) ≡ j → first (and_then (text_faults z) (late_faults z (length old))) ≡ Fault n p → j ≡ Fault n p
+    lines : (j : Judged) → first (text_faults z) ≡ j → first (and_then (text_faults z) (late_faults z (length old))) ≡ Fault n p
+        → j ≡ Fault n p
     lines Fine f g = absurd (late_high z (length old) n p low (front_pass _ _ _ f refl ∙ g))
     lines (Fault m q) f g = front_hit _ _ m q f ∙ g
 
@@ -108,8 +109,8 @@ module _ (ts : List (List ℕ)) (z : List ℕ) (all : AllAccepted ts) where
   fault_behind = rw (behind_all ts z all)
 
   -- a text that is refused alone
-  pub own_fault : (old : List ℕ) (n p : ℕ) (new : List ℕ) → length z ≤ max_text → n < 10 → gives (read_said (Refused n p)) new ≡ reading z old
-      → fault_from x (begin_of x (length ts)) ≡ Fault n p
+  pub own_fault : (old : List ℕ) (n p : ℕ) (new : List ℕ) → length z ≤ max_text → n < 10
+      → gives (read_said (Refused n p)) new ≡ reading z old → fault_from x (begin_of x (length ts)) ≡ Fault n p
   own_fault old n p new short low e =
       let g = own_lines z old n p new short low e in
       fault_behind ∙ rw (le-ltb max_text (length z) short, take_all max_text z short, g)

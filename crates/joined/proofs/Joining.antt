@@ -71,7 +71,8 @@ module _ (ts : List (List ℕ)) (z : List ℕ) (all : AllAccepted ts) where
       → drop (begin_of input t) input ≡ text_of k ds ++ (joined_of (drop (suc t) ts) ++ z)
   unfolding joined_of
   behind_text t h k ds e f =
-      f ∙ ap (λ (ys : List (List ℕ)). joined_of ys ++ z) (drop-cons ts t [] h) ∙ append_assoc (get_or ts t []) (joined_of (drop (suc t) ts)) z
+      f ∙ ap (λ (ys : List (List ℕ)). joined_of ys ++ z) (drop-cons ts t [] h)
+      ∙ append_assoc (get_or ts t []) (joined_of (drop (suc t) ts)) z
       ∙ ap (λ (y : List ℕ). y ++ (joined_of (drop (suc t) ts) ++ z)) e
 
   -- what stands from text t on

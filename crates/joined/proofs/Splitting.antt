@@ -33,7 +33,8 @@ joined_more (t ∷ ts) y = ap (λ (l : List ℕ). t ++ l) (joined_more ts y) ∙
 all_more : (ts : List (List ℕ)) (y : List ℕ) → AllAccepted ts → Accepted y → AllAccepted (ts ++ y ∷ [])
 all_more ts y all a t h =
     ⊎_elim (λ l. rw (get_or-append ts (y ∷ []) [] t l) (all t l))
-    (λ l. let z : t ≡ length ts = omega (arith, length-append ts (y ∷ [])) in rw (get_or_at ts y [] [] t (sym z)) a) (lt_or_ge t (length ts))
+    (λ l. let z : t ≡ length ts = omega (arith, length-append ts (y ∷ [])) in rw (get_or_at ts y [] [] t (sym z)) a)
+    (lt_or_ge t (length ts))
 
 -- t accepted texts, and what stands behind them
 pub record Front (x : List ℕ) (t : ℕ) : Type 0 where

@@ -61,7 +61,8 @@ module _ (l m : List ℕ) (qs : List (List ℕ)) where
   joined_free (p ∷ ps) f = (f.0, joined_free ps f.1)
 
   -- behind the first of them each line was one place further on
-  pub joined_behind : (ps : List (List ℕ)) (j : ℕ) → length ps < j → get_or (ps ++ (l ++ m) ∷ qs) j [] ≡ get_or (ps ++ l ∷ m ∷ qs) (suc j) []
+  pub joined_behind : (ps : List (List ℕ)) (j : ℕ) → length ps < j
+      → get_or (ps ++ (l ++ m) ∷ qs) j [] ≡ get_or (ps ++ l ∷ m ∷ qs) (suc j) []
   joined_behind ps zero h = absurd (omega arith)
   joined_behind [] (suc j) h = refl
   joined_behind (p ∷ ps) (suc j) h = joined_behind ps j (omega arith)

@@ -53,4 +53,5 @@ pub same_self : (xs : List ℕ) → same xs xs ≡ true
 unfolding same
 same_self xs =
     and_both _ _ (eq-eqb (length xs) (length xs) refl)
-    (ap not (some_none (λ i. not (eqb (get_or xs i 0) (get_or xs i 0))) (length xs) (λ i l. ap not (eq-eqb (get_or xs i 0) (get_or xs i 0) refl))))
+    (ap not (some_none (λ i. not (eqb (get_or xs i 0) (get_or xs i 0))) (length xs)
+    (λ i l. ap not (eq-eqb (get_or xs i 0) (get_or xs i 0) refl))))

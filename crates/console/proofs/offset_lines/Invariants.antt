@@ -8,7 +8,8 @@ use Rattle.console.proofs.offset_lines.Given as goal
 
 abbrev pub invariant-loop-i : goal.invariant-loop-i
 invariant-loop-i l =
-    (l.i ≤ length l.offsets) × (l.at ≤ l.from + 21 * l.i) × (length l.out ≡ length l.initial.out) × Adds l.initial.out l.from (offset_lines (take l.i l.offsets)) l.at l.out
+    (l.i ≤ length l.offsets) × (l.at ≤ l.from + 21 * l.i) × (length l.out ≡ length l.initial.out)
+    × Adds l.initial.out l.from (offset_lines (take l.i l.offsets)) l.at l.out
 
 abbrev pub decreases-loop-i : goal.decreases-loop-i
 decreases-loop-i l = length l.offsets - l.i
