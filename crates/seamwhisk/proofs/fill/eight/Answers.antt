@@ -18,4 +18,5 @@ pub bounds-answer-7 : goal.bounds-answer-7
 bounds-answer-7 c = simp length-set (omega arith)
 
 pub returns : goal.returns
-returns c = filled c.args.answer.now (c.args.a ∷ c.args.b ∷ c.args.c ∷ c.args.d ∷ c.args.e ∷ c.args.f ∷ c.args.g ∷ c.args.h ∷ []) (omega arith)
+returns c =
+    filled c.args.answer.now (c.args.a ∷ c.args.b ∷ c.args.c ∷ c.args.d ∷ c.args.e ∷ c.args.f ∷ c.args.g ∷ c.args.h ∷ []) (omega arith)
