@@ -110,8 +110,7 @@ module _ (ts : List (List ℕ)) (z : List ℕ) (all : AllAccepted ts) where
 
   -- a text that is refused alone
   pub own_fault : (old : List ℕ) (n p : ℕ) (new : List ℕ) → length z ≤ max_text → n < 10
-      → gives (read_said (Refused n p)) new ≡ reading z old
-      → fault_from x (begin_of x (length ts)) ≡ Fault n p
+      → gives (read_said (Refused n p)) new ≡ reading z old → fault_from x (begin_of x (length ts)) ≡ Fault n p
   own_fault old n p new short low e =
       let g = own_lines z old n p new short low e in
       fault_behind ∙ rw (le-ltb max_text (length z) short, take_all max_text z short, g)

@@ -99,9 +99,8 @@ module _ (ts : List (List ℕ)) (z : List ℕ) (all : AllAccepted ts) (most : le
 -- Where other bytes follow it, this holds of each number but 3, which says that its line does not end: with bytes behind it, it may.
 pub fault_before_others : (ts : List (List ℕ)) (y z : List ℕ) → AllAccepted ts → length ts < max_texts → 1 ≤ length y → length y ≤ max_text
     → (budget : ℕ) (l : Lists) → Fits (joined_of ts ++ (y ++ z)) l → (r : Run) (m : Lists)
-    → gives (said r) m ≡ planning (joined_of ts ++ (y ++ z)) budget l → (old : List ℕ) (n p : ℕ) (new : List ℕ) → n < 10
-    → (n ≡ cut_line → ⊥)
-    → gives (read_said (Refused n p)) new ≡ reading y old
+    → gives (said r) m ≡ planning (joined_of ts ++ (y ++ z)) budget l
+    → (old : List ℕ) (n p : ℕ) (new : List ℕ) → n < 10 → (n ≡ cut_line → ⊥) → gives (read_said (Refused n p)) new ≡ reading y old
     → (r ≡ Stopped (length ts) n p) × AsAlone ts budget l m × KeptFrom (length ts) l m
 fault_before_others ts y z all h some short budget l f r m e old n p new low other g =
     stopped_by ts (y ++ z) all (omega arith) budget l f r m e (omega (arith, length-append y z)) n p h

@@ -63,12 +63,7 @@ pub fn seamwhisk_check(
 }
 
 // The checker over a list of records.
-pub fn seamwhisk_check_records(
-    period: u32,
-    size: u32,
-    records: &[Record],
-    answer: &mut [u64; 5],
-)
+pub fn seamwhisk_check_records(period: u32, size: u32, records: &[Record], answer: &mut [u64; 5])
     ensures { answer.new
         ≡ checked_as (answer_checked (link_of period size) (delays_of records.now) (offsets_of records.now)) }
 {

@@ -23,8 +23,8 @@ use Rattle.link.specs.declared.Link.{Link}
 use Rattle.text.specs.Limits.{bad_line, bad_count}
 use Rattle.text.specs.Bytes.{space, seek, end_word}
 use Rattle.text.specs.Decimal.{max_digits, is_decimal, value}
-use Rattle.text.specs.Faults.{first_part, second_part, is_pair, link_of, is_last}
-use Rattle.text.specs.Faults.{count_part, placed_at, pair_faults, row_faults, last_faults}
+use Rattle.text.specs.Faults.{first_part, second_part, is_pair, link_of, is_last, count_part, placed_at, pair_faults, row_faults}
+use Rattle.text.specs.Faults.{last_faults}
 use Rattle.text.specs.Steps.{number_says, numbers_say, pair_says, delay_says, row_says, last_says}
 use Rattle.text.specs.declared.decimal.Number.TheVariants.{Is, Not as NoNumber}
 use Rattle.text.specs.declared.judge.Numbers.TheVariants.{Are, Not}

@@ -88,8 +88,8 @@ module _ (ms : List (List ℕ)) (n' : ℕ) (s' : Tabular ms n') (rest : List ℕ
       (λ l. l) (lt_or_ge n' u)
 
   -- a last line in a row's place is the table's own
-  own_last : (i n : ℕ) (q r : List ℕ) → i ≤ n' → get_or ms (suc (suc i)) [] ++ q ≡ last_line n ++ r
-      → get_or ms (suc (suc i)) [] ≡ last_line i
+  own_last : (i n : ℕ) (q r : List ℕ) → i ≤ n'
+      → get_or ms (suc (suc i)) [] ++ q ≡ last_line n ++ r → get_or ms (suc (suc i)) [] ≡ last_line i
   own_last i n q r h e =
       ⊎_elim (λ l. absurd (last_not_led n r (subst Led e (led_more (get_or ms (suc (suc i)) []) q (led _ (s'.row i l))))))
       (λ l. let c : n' ≡ i = omega arith in rw c at s'.last) (lt_or_ge i n')

@@ -17,9 +17,9 @@ use Rattle.text.specs.declared.Text.TheVariants.{Whole}
 use Rattle.text.specs.Bytes.{seek, same}
 use Rattle.text.specs.Decimal.{is_other, all_digits, leading_zero, is_decimal, value_from}
 use Rattle.text.specs.Lines.{next_line, begin, line_from, ended_from}
-use Rattle.text.specs.Faults.{first_part, second_part, is_pair, link_of, is_last}
-use Rattle.text.specs.Faults.{count_part, placed_at, title_faults, pair_faults, row_faults}
-use Rattle.text.specs.Faults.{last_faults, own_faults, line_faults, lines_faults, rows_of, text_faults, end_of, late_faults, read_faults}
+use Rattle.text.specs.Faults.{first_part, second_part, is_pair, link_of, is_last, count_part, placed_at, title_faults, pair_faults}
+use Rattle.text.specs.Faults.{row_faults, last_faults, own_faults, line_faults, lines_faults}
+use Rattle.text.specs.Faults.{rows_of, text_faults, end_of, late_faults, read_faults}
 use Rattle.text.specs.Answer.{said, delays_of, accepted, reading}
 use Rattle.text.specs.TextAnswer.{text_said, wholly, reading_text}
 use Rattle.text.specs.Meaning.{TableOf, RefusalOf}

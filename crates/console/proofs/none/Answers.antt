@@ -4,12 +4,6 @@ use Rattle.console.specs.Printed.{none_word, none_line}
 use Rattle.ground.proofs.Adding.{and_then}
 use Rattle.console.proofs.none.Goals as goal
 
-pub word-at-requires : goal.word-at-requires
-word-at-requires c = omega arith
-
-pub line-requires : goal.line-requires
-line-requires c = omega (arith, c.word-at.auto.out, c.word-at.ensures.end)
-
 pub returns : goal.returns
 unfolding none_line
 returns c =

@@ -1,7 +1,6 @@
 use mathlib.Core.Path.{◌≡◌, refl, ◌∙◌}
-use Prim.Native.Nat.{◌-◌}
 use native.Mathlib.Omega.{arith}
-use lib.ListN.{length, take}
+use lib.ListN.{length}
 use lib.Seq.{take-length}
 use Rattle.console.specs.Printed.{offset_lines}
 use Rattle.ground.proofs.Adding.{nothing_yet, and_then}
@@ -12,9 +11,6 @@ pub loop-i-init : goal.loop-i-init
 unfolding offset_lines
 loop-i-init c = (omega arith, omega arith, refl, nothing_yet c.args.out.now c.args.from)
 
-pub line_of-at-requires : goal.line_of-at-requires
-line_of-at-requires c = omega (arith, c.loop-i.invariant.1, c.loop-i.invariant.2)
-
 pub loop-i-preserved : goal.loop-i-preserved
 loop-i-preserved c =
     let put = and_then _ _ _ (omega (arith, c.loop-i.invariant.3.end)) _ _ c.loop-i.invariant.3 _ _ _ c.line_of-at.ensures.0 in (
@@ -23,9 +19,6 @@ loop-i-preserved c =
       c.line_of-at.auto.out ∙ c.loop-i.invariant.2,
       rw (one_more c.args.offsets.now c.loop-i.i (omega arith)) at put,
     )
-
-pub shape_of-out : goal.shape_of-out
-shape_of-out c = c.loop-i.invariant.2
 
 pub returns : goal.returns
 returns c =

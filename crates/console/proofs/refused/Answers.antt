@@ -3,24 +3,6 @@ use Rattle.console.specs.Printed.{refused_word, refused_line}
 use Rattle.ground.proofs.Adding.{and_then}
 use Rattle.console.proofs.refused.Goals as goal
 
-pub word-at-requires : goal.word-at-requires
-word-at-requires c = omega arith
-
-pub word-at-requires-2 : goal.word-at-requires-2
-word-at-requires-2 c = omega (arith, c.decimal-at.auto.out, c.word-at.auto.out, c.decimal-at.ensures.1, c.word-at.ensures.end)
-
-pub line-requires : goal.line-requires
-line-requires c =
-    omega (
-      arith,
-      c.word-at-2.auto.out,
-      c.decimal-at.auto.out,
-      c.word-at.auto.out,
-      c.word-at-2.ensures.end,
-      c.decimal-at.ensures.1,
-      c.word-at.ensures.end,
-    )
-
 pub returns : goal.returns
 unfolding refused_line
 returns c =

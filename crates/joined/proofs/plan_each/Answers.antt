@@ -1,4 +1,3 @@
-use Prim.Native.Nat.{◌-◌}
 use native.Mathlib.Omega.{arith}
 use Rattle.joined.specs.Answer.{lists}
 use Rattle.joined.proofs.Walk.{start, answer_room, plan_room, lent_room, answers_back, offsets_back, all_done, too_many}
@@ -8,32 +7,14 @@ use Rattle.joined.proofs.plan_each.Goals as goal
 pub loop-at-init : goal.loop-at-init
 loop-at-init c = start _ _ _ c.requires.0 c.requires.1
 
-pub shape_of-answers-then-t-ge-MAX_TEXTS : goal.shape_of-answers-then-t-ge-MAX_TEXTS
-shape_of-answers-then-t-ge-MAX_TEXTS c = c.loop-at.invariant.answers_kept
-
-pub shape_of-offsets-then-t-ge-MAX_TEXTS : goal.shape_of-offsets-then-t-ge-MAX_TEXTS
-shape_of-offsets-then-t-ge-MAX_TEXTS c = c.loop-at.invariant.offsets_kept
-
 pub returns-then-t-ge-MAX_TEXTS : goal.returns-then-t-ge-MAX_TEXTS
 returns-then-t-ge-MAX_TEXTS c = too_many _ _ _ _ _ _ c.loop-at.invariant c.if-t-ge-MAX_TEXTS.true c.loop-at-test.true
-
-pub overflow_mul-a : goal.overflow_mul-a
-overflow_mul-a c = omega (arith, c.if-t-ge-MAX_TEXTS.false)
-
-pub overflow_mul-o : goal.overflow_mul-o
-overflow_mul-o c = omega (arith, c.if-t-ge-MAX_TEXTS.false)
-
-pub offset_bounds-answers-a : goal.offset_bounds-answers-a
-offset_bounds-answers-a c = omega (arith, c.if-t-ge-MAX_TEXTS.false)
 
 pub slice_bounds-plan_text-count : goal.slice_bounds-plan_text-count
 slice_bounds-plan_text-count c = omega (arith, answer_room _ _ _ _ _ _ c.loop-at.invariant c.if-t-ge-MAX_TEXTS.false)
 
 pub slice_bounds-plan_text-start : goal.slice_bounds-plan_text-start
 slice_bounds-plan_text-start c = omega (arith, answer_room _ _ _ _ _ _ c.loop-at.invariant c.if-t-ge-MAX_TEXTS.false)
-
-pub offset_bounds-offsets-o : goal.offset_bounds-offsets-o
-offset_bounds-offsets-o c = omega (arith, c.if-t-ge-MAX_TEXTS.false)
 
 pub slice_bounds-plan_text-count-in-loop-at : goal.slice_bounds-plan_text-count-in-loop-at
 slice_bounds-plan_text-count-in-loop-at c = omega (arith, plan_room _ _ _ _ _ _ c.loop-at.invariant c.if-t-ge-MAX_TEXTS.false)
@@ -59,19 +40,10 @@ returns-in-Wrong c =
     fault_here _ _ _ _ _ _ c.loop-at.invariant c.if-t-ge-MAX_TEXTS.false _ c.loop-at-test.true _ _ _
     c.in-Wrong.is c.plan_text.ensures
 
-pub loop-at-smaller : goal.loop-at-smaller
-loop-at-smaller c = omega (arith, c.if-t-ge-MAX_TEXTS.false)
-
 pub loop-at-preserved : goal.loop-at-preserved
 loop-at-preserved c =
     next _ _ _ _ _ _ c.loop-at.invariant c.if-t-ge-MAX_TEXTS.false _ c.loop-at-test.true _ _ c.in-Next.is
     c.plan_text.auto.answers c.plan_text.auto.offsets c.plan_text.ensures
-
-pub shape_of-answers : goal.shape_of-answers
-shape_of-answers c = c.loop-at.invariant.answers_kept
-
-pub shape_of-offsets : goal.shape_of-offsets
-shape_of-offsets c = c.loop-at.invariant.offsets_kept
 
 pub returns : goal.returns
 returns c = all_done _ _ _ _ _ _ c.loop-at.invariant c.loop-at-test.false

@@ -22,7 +22,8 @@ slice_bounds-kept-end c = omega (arith, rows_few _ _ _ _ _ (rw c.in-Whole.is at 
 
 pub slice_bounds-copy_out-end : goal.slice_bounds-copy_out-end
 slice_bounds-copy_out-end c =
-    sym (length-take-le _ _ (omega (arith, rows_few _ _ _ _ _ (rw c.in-Whole.is at c.read_lines.ensures), c.read_lines.auto.kept)))
+    let few = rows_few _ _ _ _ _ (rw c.in-Whole.is at c.read_lines.ensures) in
+    sym (length-take-le _ _ (omega (arith, few, c.read_lines.auto.kept)))
 
 pub copy_out-requires : goal.copy_out-requires
 copy_out-requires c = simp length-take (omega arith)

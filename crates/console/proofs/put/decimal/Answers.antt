@@ -13,8 +13,7 @@ word-requires c = simp (length-take, length-drop) (omega arith)
 
 pub returns : goal.returns
 returns c =
-    let all = take_all (max_digits - c.spell-spelt.result.from) (drop c.spell-spelt.result.from c.spell-spelt.result.digits)
-    (simp length-drop (omega arith))
-    ∙ c.spell-spelt.ensures.2 in
+    let s = c.spell-spelt in
+    let all = take_all (max_digits - s.result.from) (drop s.result.from s.result.digits) (simp length-drop (omega arith)) ∙ s.ensures.2 in
     let put = rw all at c.word.ensures in
     (put, omega (arith, put.end, number_short c.args.n))

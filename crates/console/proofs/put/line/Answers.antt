@@ -3,9 +3,6 @@ use native.Mathlib.Omega.{arith}
 use Rattle.ground.proofs.Adding.{and_then}
 use Rattle.console.proofs.put.line.Goals as goal
 
-pub word-requires : goal.word-requires
-word-requires c = omega (arith, c.decimal-end.auto.out, c.decimal-end.ensures.1)
-
 pub returns : goal.returns
 returns c =
     let digits = c.decimal-end.ensures.0 in (

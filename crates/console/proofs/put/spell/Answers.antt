@@ -13,12 +13,12 @@ loop-rest-init c = begins _ _ c.ranges.n.fits refl refl
 
 pub returns-then-rest-lt10 : goal.returns-then-rest-lt10
 returns-then-rest-lt10 c =
-    let s = subst (λ (m : ℕ). Spelling c.args.n c.loop-rest.digits m c.loop-rest.rest)
-    (more c.loop-rest.from c.loop-rest.invariant.low) c.loop-rest.invariant in
-    (omega arith, simp length-set c.loop-rest.invariant.size, ends _ _ _ _ s c.if-rest-lt10.true)
+    let l = c.loop-rest in
+    let s = subst (λ (m : ℕ). Spelling c.args.n l.digits m l.rest) (more l.from l.invariant.low) l.invariant in
+    (omega arith, simp length-set l.invariant.size, ends _ _ _ _ s c.if-rest-lt10.true)
 
 pub loop-rest-preserved : goal.loop-rest-preserved
 loop-rest-preserved c =
-    let s = subst (λ (m : ℕ). Spelling c.args.n c.loop-rest.digits m c.loop-rest.rest)
-    (more c.loop-rest.from c.loop-rest.invariant.low) c.loop-rest.invariant in
+    let l = c.loop-rest in
+    let s = subst (λ (m : ℕ). Spelling c.args.n l.digits m l.rest) (more l.from l.invariant.low) l.invariant in
     goes_on _ _ _ _ s c.if-rest-lt10.false

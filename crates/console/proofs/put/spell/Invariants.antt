@@ -1,5 +1,4 @@
 -- Invariant: `from` digits are still to be spelt, those of `rest`.
-use Prim.Native.Nat.{◌-◌}
 use Rattle.console.proofs.Spelling.{Spelling}
 use Rattle.console.proofs.put.spell.Given as goal
 

@@ -12,10 +12,12 @@ returns-then-delay-gt-MAX_DELAY c = refused Wrong _ (sym (hit _ _ bad_delay _ (l
 
 pub returns-then-rows-ge-MAX_ROWS : goal.returns-then-rows-ge-MAX_ROWS
 returns-then-rows-ge-MAX_ROWS c =
-    refused Wrong _ (sym (pass _ _ bad_delay _ (le-ltb _ _ c.if-delay-gt-MAX_DELAY.false)
-    (hit _ _ bad_rows _ (le-leb _ _ c.if-rows-ge-MAX_ROWS.true))))
+    refused Wrong _
+    (sym (pass _ _ bad_delay _ (le-ltb _ _ c.if-delay-gt-MAX_DELAY.false) (hit _ _ bad_rows _ (le-leb _ _ c.if-rows-ge-MAX_ROWS.true))))
 
 pub returns : goal.returns
 returns c =
-    goes_on Wrong (sym (pass _ _ bad_delay _ (le-ltb _ _ c.if-delay-gt-MAX_DELAY.false)
-    (pass _ _ bad_rows _ (lt-leb _ _ c.if-rows-ge-MAX_ROWS.false) fine))) refl
+    goes_on Wrong
+    (sym (pass _ _ bad_delay _ (le-ltb _ _ c.if-delay-gt-MAX_DELAY.false)
+    (pass _ _ bad_rows _ (lt-leb _ _ c.if-rows-ge-MAX_ROWS.false) fine)))
+    refl

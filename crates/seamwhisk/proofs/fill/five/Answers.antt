@@ -1,0 +1,12 @@
+-- Every place is written, so the old numbers do not matter.
+use mathlib.Core.List.{[], ◌∷◌}
+use native.Mathlib.Omega.{arith}
+use lib.ListN.{length-set}
+use Rattle.seamwhisk.proofs.Filled.{filled}
+use Rattle.seamwhisk.proofs.fill.five.Goals as goal
+
+pub bounds-answer-4 : goal.bounds-answer-4
+bounds-answer-4 c = simp length-set (omega arith)
+
+pub returns : goal.returns
+returns c = filled c.args.answer.now (c.args.a ∷ c.args.b ∷ c.args.c ∷ c.args.d ∷ c.args.e ∷ []) (omega arith)
