@@ -24,6 +24,8 @@ LEMMAS = (
     "second-part count-part table-lines"
 ).split()
 OTHERS = {"one-slot": "is_one_slot", "wrong-tag": "tag_wrong"}
+# parameters, and names that one file gives to another's definition
+OTHERS.update({"oldD": "old_d", "oldO": "old_o", "goesOn": "goes_on", "searchedSaid": "searched_said"})
 OTHERS.update({f"getD-{n}": f"get_or_{n}" for n in ("behind", "listed", "mapped", "ones")})
 IN_CRATE = {
     "checker/proofs": {"met_by": "met_by_lem"},
@@ -128,6 +130,10 @@ def main():
                 for t in TOKEN.findall(code):
                     was.setdefault(here.get(t, t), set()).add(t)
                 line = re.sub(r'("[^"]*")|([^"]+)', lambda m: m.group(1) or sub(here, m.group(2)), code) + sub(plain, comment)
+            if path.endswith(".rt"):
+                # an alias of a definition that has the function's name is needed no more
+                line = re.sub(r"\b(\w+) as \1Of\b", r"\1", line)
+                line = re.sub(r"\b(begins|seek|same)Of\b", r"\1", line)
             # a name before a middle dot was made of two names
             out.append(re.sub(r"\b([A-Z])(\w*)·(\w+)", lambda m: f"{m.group(1).lower()}{m.group(2)}_{m.group(3)}", line).replace("said·", "said_") if path.endswith(".rt") else line)
         for new, old in sorted(was.items()):

@@ -11,7 +11,7 @@ use Rattle.link.specs.declared.Link.{Link}
 use Rattle.text.specs.Faults.{rows_of}
 use Rattle.text.specs.Answer.{table_link, delays_of}
 use Rattle.text.proofs.Promises.{accepted_is_the_text}
-use Rattle.search.specs.Answer.{Said as Searched, said as searchedSaid, Answers, given}
+use Rattle.search.specs.Answer.{Said as Searched, said as searched_said, Answers, given}
 use Rattle.search.specs.declared.Answer.{Answer}
 use Rattle.search.proofs.Promises.{any_list_same}
 use Rattle.search.proofs.Verdicts.{some_answer}
@@ -43,10 +43,10 @@ module _ (ts : List (List ℕ)) (z : List ℕ) (all : AllAccepted ts) (budget : 
       let e = any_list_same w.link (take n w.new) budget w.lent (lent x budget l t) a (answer_of x budget l t) plan
       (outcome_of x budget l t).leaves (omega (arith, c.as_many, w.room))
       (omega (arith, lent_room x budget l m few going f.answers f.plans t h, c.good.rows_high)) w.answer so in
-      let said = sym (some_answer (table_link y) (delays_of y (rows_of y)) budget (lent x budget l t)).1 ∙ ap searchedSaid e.0 in
+      let said = sym (some_answer (table_link y) (delays_of y (rows_of y)) budget (lent x budget l t)).1 ∙ ap searched_said e.0 in
       record {
         numbers = numbers_at x budget l m few going f.answers f.plans t h
-            ∙ ap (λ (s : Searched). answer_as s (rows_of y)) said ∙ ap (answer_as (searchedSaid a)) (r.rows ∙ c.as_many);
+            ∙ ap (λ (s : Searched). answer_as s (rows_of y)) said ∙ ap (answer_as (searched_said a)) (r.rows ∙ c.as_many);
         offsets = offsets_at x budget l m few going f.answers f.plans t h
             ∙ ap (λ (os : List ℕ). on_front os (block max_rows t l.offsets))
             (ap (λ (i : ℕ). given (answer_of x budget l t) i (outcome_of x budget l t).leaves) r.rows ∙ e.1

@@ -20,7 +20,7 @@ use Rattle.ground.proofs.Filling.{middle_part}
 use Rattle.link.specs.declared.Link.{Link}
 use Rattle.text.specs.Limits.{max_text, long_text, cut_line}
 use Rattle.text.specs.Faults.{text_faults}
-use Rattle.search.specs.Answer.{Said as Searched, said as searchedSaid, exactly}
+use Rattle.search.specs.Answer.{Said as Searched, said as searched_said, exactly}
 use Rattle.search.specs.declared.Answer.{Answer}
 use Rattle.joined.specs.Texts.{text_from, split_cut, fault_from, is_fault}
 use Rattle.joined.specs.Answer.{Lists, lists, answer_as, plan_of, in_front}
@@ -84,12 +84,12 @@ module _ (x : List ℕ) (at : ℕ) where
     wrong_step n p s e f = rw (f, rw is at e, length-drop at x) (split l (ltb max_text (length x - at)) n p _)
 
     pub next_step : (k : Link) (rows end : ℕ) (old kept : List ℕ) (a : Answer) (numbers offsets : List ℕ) → WholeText y k rows end old kept
-        → gives (searchedSaid a) offsets ≡ exactly k (take rows kept) budget l.offsets
-        → numbers ≡ on_front (answer_as (searchedSaid a) rows) l.answers
+        → gives (searched_said a) offsets ≡ exactly k (take rows kept) budget l.offsets
+        → numbers ≡ on_front (answer_as (searched_said a) rows) l.answers
         → gives (Next (at + end)) (lists numbers offsets) ≡ step_gives x at budget l
     unfolding step_gives in_front
     next_step k rows end old kept a numbers offsets w e f =
-        let g : gives (searchedSaid a) offsets ≡ plan_of y budget l.offsets = e ∙ rw (w.link, w.delays) in
-        let s : searchedSaid a ≡ (plan_of y budget l.offsets).says = ap (λ (o : Outcome Searched (List ℕ)). o.says) g in
+        let g : gives (searched_said a) offsets ≡ plan_of y budget l.offsets = e ∙ rw (w.link, w.delays) in
+        let s : searched_said a ≡ (plan_of y budget l.offsets).says = ap (λ (o : Outcome Searched (List ℕ)). o.says) g in
         let o : offsets ≡ (plan_of y budget l.offsets).leaves = ap (λ (o : Outcome Searched (List ℕ)). o.leaves) g in
         goes_on (keeping Wrong l) (fine_from (rw is at w.fine)) (rw (← is, f, s, o, w.ends, w.rows_are))

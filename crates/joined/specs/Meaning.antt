@@ -6,7 +6,7 @@ use Rattle.link.specs.Limits.{max_rows}
 use Rattle.link.specs.declared.Link.{Link}
 use Rattle.text.specs.Answer.{said as read_said, reading}
 use Rattle.text.specs.declared.Read.TheVariants.{Table}
-use Rattle.search.specs.Answer.{said as searchedSaid, Answers, given}
+use Rattle.search.specs.Answer.{said as searched_said, Answers, given}
 use Rattle.search.specs.declared.Answer.{Answer}
 use Rattle.joined.specs.Limits.{max_texts, max_joined, answer_size}
 use Rattle.joined.specs.declared.Run.{Run}
@@ -40,7 +40,7 @@ pub record Alone (y : List ℕ) (budget n : ℕ) (a : Answer) (plan : List ℕ) 
 
 -- the lists `new`, which were `old`, have this answer in text t's places: four numbers; the plan's offsets, and what was there behind them
 pub record Holds (old new : Lists) (t n : ℕ) (a : Answer) (plan : List ℕ) : Type 0 where
-  pub numbers : block answer_size t new.answers ≡ answer_as (searchedSaid a) n
+  pub numbers : block answer_size t new.answers ≡ answer_as (searched_said a) n
   pub offsets : block max_rows t new.offsets ≡ on_front (given a n plan) (block max_rows t old.offsets)
 
 -- each of the first texts has the answer that it gets alone in its places

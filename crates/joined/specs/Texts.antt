@@ -20,7 +20,7 @@ begin_of x (suc t) = begin_of x t + end_of (text_from x (begin_of x t))
 
 -- "a line not ended within the text's first 1,024 bytes gives 1 if the input goes on past them, and 3 if it doesn't"
 abbrev pub split_cut : {A : Type 0} → (ℕ → ℕ → A) → Bool → ℕ → ℕ → A
-split_cut fault goesOn n p = cond (goesOn && eqb n cut_line) (fault long_text 0) (fault n p)
+split_cut fault goes_on n p = cond (goes_on && eqb n cut_line) (fault long_text 0) (fault n p)
 
 -- the first fault of the text that begins at `at`, with its place in that text
 unfoldable pub fault_from : List ℕ → ℕ → Judged

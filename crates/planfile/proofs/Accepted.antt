@@ -49,18 +49,18 @@ module _ (k : Link) (ds os : List ℕ) where
       r.here ∙ some_left _ k ds os r.place more ∙ ap (refused left_over) place
 
   -- its bytes are delivered into lists with room
-  pub reads_back : ClearPlan k ds os → (oldD oldO : List ℕ) → length ds ≤ length oldD → length os ≤ length oldO
-      → delivers k ds os oldD oldO ≡ read_gives (plan_bytes k ds os) oldD oldO
+  pub reads_back : ClearPlan k ds os → (old_d old_o : List ℕ) → length ds ≤ length old_d → length os ≤ length old_o
+      → delivers k ds os old_d old_o ≡ read_gives (plan_bytes k ds os) old_d old_o
   unfolding read_gives delivered
-  reads_back w oldD oldO h l = rw (means_its_plan w, le-ltb _ _ h, le-ltb _ _ l)
+  reads_back w old_d old_o h l = rw (means_its_plan w, le-ltb _ _ h, le-ltb _ _ l)
 
 -- the file bs was read as a plan of n rows on the link k, and the lists were left as ds and os
-pub record AcceptedFile (bs oldD oldO : List ℕ) (k : Link) (n : ℕ) (ds os : List ℕ) : Type 0 where
+pub record AcceptedFile (bs old_d old_o : List ℕ) (k : Link) (n : ℕ) (ds os : List ℕ) : Type 0 where
   pub delays : List ℕ
   pub offsets : List ℕ
   pub many : n ≡ length delays
-  pub left_delays : ds ≡ on_front delays oldD
-  pub left_offsets : os ≡ on_front offsets oldO
+  pub left_delays : ds ≡ on_front delays old_d
+  pub left_offsets : os ≡ on_front offsets old_o
   pub front_delays : take n ds ≡ delays
   pub front_offsets : take n os ≡ offsets
   pub clear : ClearPlan k delays offsets
@@ -69,39 +69,39 @@ pub record AcceptedFile (bs oldD oldO : List ℕ) (k : Link) (n : ℕ) (ds os : 
 front : (xs old ys : List ℕ) (n : ℕ) → ys ≡ on_front xs old → n ≡ length xs → take n ys ≡ xs
 front xs old ys n e f = rw (e, f) (take-append_seam xs (drop (length xs) old))
 
-module _ (bs oldD oldO : List ℕ) (h : Bytes bs) (k : Link) (n : ℕ) (ds os : List ℕ) where
-  of_plan : (l : Link) (xs ys : List ℕ) → meaning bs ≡ plan l xs ys → gives (reads_plan k n) (lists ds os) ≡ delivers l xs ys oldD oldO
-      → AcceptedFile bs oldD oldO k n ds os
+module _ (bs old_d old_o : List ℕ) (h : Bytes bs) (k : Link) (n : ℕ) (ds os : List ℕ) where
+  of_plan : (l : Link) (xs ys : List ℕ) → meaning bs ≡ plan l xs ys → gives (reads_plan k n) (lists ds os) ≡ delivers l xs ys old_d old_o
+      → AcceptedFile bs old_d old_o k n ds os
   of_plan l xs ys e f =
       let a = accepted bs l xs ys h e in
       let clear = fine_clear l xs ys a.fine in
       let link : k ≡ l = ap (λ (o : ReadGives). o.says.link) f in
       let many : n ≡ length xs = ap (λ (o : ReadGives). o.says.rows) f in
-      let delays : ds ≡ on_front xs oldD = ap (λ (o : ReadGives). o.leaves.delays) f in
-      let offsets : os ≡ on_front ys oldO = ap (λ (o : ReadGives). o.leaves.offsets) f in
+      let delays : ds ≡ on_front xs old_d = ap (λ (o : ReadGives). o.leaves.delays) f in
+      let offsets : os ≡ on_front ys old_o = ap (λ (o : ReadGives). o.leaves.offsets) f in
       record {
         delays = xs;
         offsets = ys;
         many = many;
         left_delays = delays;
         left_offsets = offsets;
-        front_delays = front xs oldD ds n delays many;
-        front_offsets = front ys oldO os n offsets (many ∙ sym clear.0.as_many);
+        front_delays = front xs old_d ds n delays many;
+        front_offsets = front ys old_o os n offsets (many ∙ sym clear.0.as_many);
         clear = rw link clear;
         bytes = rw link a.bytes;
       }
 
-  pub accepted_file : Gives (read_gives bs oldD oldO) (Plan k n) ds os → AcceptedFile bs oldD oldO k n ds os
+  pub accepted_file : Gives (read_gives bs old_d old_o) (Plan k n) ds os → AcceptedFile bs old_d old_o k n ds os
   unfolding read_said read_gives delivered
   accepted_file e = go (meaning bs) refl e
     where
       pick : (l : Link) (xs ys : List ℕ) → meaning bs ≡ plan l xs ys → (b : Bool)
-          → gives (reads_plan k n) (lists ds os) ≡ cond b (refuses bad_length 0 oldD oldO) (delivers l xs ys oldD oldO)
-          → AcceptedFile bs oldD oldO k n ds os
+          → gives (reads_plan k n) (lists ds os) ≡ cond b (refuses bad_length 0 old_d old_o) (delivers l xs ys old_d old_o)
+          → AcceptedFile bs old_d old_o k n ds os
       pick l xs ys m true f = never (cc (ap (λ (o : ReadGives). o.says.verdict) f))
       pick l xs ys m false f = of_plan l xs ys m f
 
-      go : (m : Meaning) → meaning bs ≡ m → gives (reads_plan k n) (lists ds os) ≡ delivered m oldD oldO
-          → AcceptedFile bs oldD oldO k n ds os
-      go (plan l xs ys) m f = pick l xs ys m (ltb (length oldD) (length xs) || ltb (length oldO) (length ys)) f
+      go : (m : Meaning) → meaning bs ≡ m → gives (reads_plan k n) (lists ds os) ≡ delivered m old_d old_o
+          → AcceptedFile bs old_d old_o k n ds os
+      go (plan l xs ys) m f = pick l xs ys m (ltb (length old_d) (length xs) || ltb (length old_o) (length ys)) f
       go (refused x y) m f = never (cc (ap (λ (o : ReadGives). o.says.verdict) f))

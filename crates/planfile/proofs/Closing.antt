@@ -37,26 +37,27 @@ module _ (bs : List ℕ) (k : Link) (ds os : List ℕ) (at : ℕ) where
   unfolding closing
   none_left h = rw (le-ltb _ _ h)
 
-module _ (bs : List ℕ) (k : Link) (ds os : List ℕ) (at : ℕ) (oldD oldO : List ℕ) where
-  pub bytes_left_over : at < length bs → delivered (closing bs k ds os at) oldD oldO ≡ refuses left_over at oldD oldO
+module _ (bs : List ℕ) (k : Link) (ds os : List ℕ) (at : ℕ) (old_d old_o : List ℕ) where
+  pub bytes_left_over : at < length bs → delivered (closing bs k ds os at) old_d old_o ≡ refuses left_over at old_d old_o
   unfolding delivered
   bytes_left_over h = rw (some_left bs k ds os at h)
 
   module _ (all : length bs ≤ at) where
-    pub unclear : (n p : ℕ) → first (clear_faults k ds os) ≡ Fault n p → delivered (closing bs k ds os at) oldD oldO ≡ refuses n p oldD oldO
+    pub unclear : (n p : ℕ) → first (clear_faults k ds os) ≡ Fault n p
+        → delivered (closing bs k ds os at) old_d old_o ≡ refuses n p old_d old_o
     unfolding delivered
     unclear n p e = rw (none_left bs k ds os at all, e)
 
     module _ (fine : first (clear_faults k ds os) ≡ Fine) where
-      pub short_delays : length oldD < length ds → delivered (closing bs k ds os at) oldD oldO ≡ refuses bad_length 0 oldD oldO
+      pub short_delays : length old_d < length ds → delivered (closing bs k ds os at) old_d old_o ≡ refuses bad_length 0 old_d old_o
       unfolding delivered
       short_delays h = rw (none_left bs k ds os at all, fine, lt-ltb _ _ h)
 
-      pub short_offsets : length oldO < length os → delivered (closing bs k ds os at) oldD oldO ≡ refuses bad_length 0 oldD oldO
+      pub short_offsets : length old_o < length os → delivered (closing bs k ds os at) old_d old_o ≡ refuses bad_length 0 old_d old_o
       unfolding delivered
       short_offsets h = rw (none_left bs k ds os at all, fine, lt-ltb _ _ h, or-true)
 
-      pub copied_out : length ds ≤ length oldD → length os ≤ length oldO →
-          delivered (closing bs k ds os at) oldD oldO ≡ delivers k ds os oldD oldO
+      pub copied_out : length ds ≤ length old_d → length os ≤ length old_o →
+          delivered (closing bs k ds os at) old_d old_o ≡ delivers k ds os old_d old_o
       unfolding delivered
       copied_out h l = rw (none_left bs k ds os at all, fine, le-ltb _ _ h, le-ltb _ _ l)

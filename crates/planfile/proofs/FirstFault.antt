@@ -207,19 +207,20 @@ only_the_tag bs q (bad_number t at (needless e m low h l b z)) = absurd (omega (
 only_the_tag bs q (bytes_left_over e t h w l) = absurd (omega (arith, e))
 
 -- a reader that refuses with such a number does so by what the file means, not for its lists
-pub refused_means : (bs oldD oldO ds os : List ℕ) (n q : ℕ) → form_number n ≡ true → Gives (read_gives bs oldD oldO) (Refused n q) ds os →
+pub refused_means : (bs old_d old_o ds os : List ℕ) (n q : ℕ) → form_number n ≡ true
+    → Gives (read_gives bs old_d old_o) (Refused n q) ds os →
     meaning bs ≡ refused n q
 unfolding read_said read_gives delivered form_number
-refused_means bs oldD oldO ds os n q f e = go (meaning bs) e
+refused_means bs old_d old_o ds os n q f e = go (meaning bs) e
   where
     pick : (k : Link) (xs ys : List ℕ) (b : Bool) →
-        gives (read_said (Refused n q)) (lists ds os) ≡ cond b (refuses bad_length 0 oldD oldO) (delivers k xs ys oldD oldO) →
+        gives (read_said (Refused n q)) (lists ds os) ≡ cond b (refuses bad_length 0 old_d old_o) (delivers k xs ys old_d old_o) →
         plan k xs ys ≡ refused n q
     pick k xs ys true h = let number : n ≡ bad_length = ap (λ (g : ReadGives). g.says.number) h in clash (rw number at f) refl
     pick k xs ys false h = never (cc (ap (λ (g : ReadGives). g.says.verdict) h))
 
-    go : (m : Meaning) → gives (read_said (Refused n q)) (lists ds os) ≡ delivered m oldD oldO → m ≡ refused n q
-    go (plan k xs ys) h = pick k xs ys (ltb (length oldD) (length xs) || ltb (length oldO) (length ys)) h
+    go : (m : Meaning) → gives (read_said (Refused n q)) (lists ds os) ≡ delivered m old_d old_o → m ≡ refused n q
+    go (plan k xs ys) h = pick k xs ys (ltb (length old_d) (length xs) || ltb (length old_o) (length ys)) h
     go (refused a b) h =
         let number : n ≡ a = ap (λ (g : ReadGives). g.says.number) h in
         let place : q ≡ b = ap (λ (g : ReadGives). g.says.place) h in

@@ -36,32 +36,32 @@ module _ (bs : List ℕ) (at : ℕ) where
       go true f = let r = header_read bs at (record { link = k; rows = n }) next (sym f) in (r.period.low, r.rows.high)
       go false f = never (cc)
 
-  module _ (h : Header) (oldD oldO : List ℕ) where
-    pub head_refused : (n p : ℕ) → h ≡ Refused n p → rest_gives bs at h oldD oldO ≡ refuses n p oldD oldO
+  module _ (h : Header) (old_d old_o : List ℕ) where
+    pub head_refused : (n p : ℕ) → h ≡ Refused n p → rest_gives bs at h old_d old_o ≡ refuses n p old_d old_o
     unfolding headed delivered rest_gives
-    head_refused n p e = ap (λ (x : Header). rest_gives bs at x oldD oldO) e
+    head_refused n p e = ap (λ (x : Header). rest_gives bs at x old_d old_o) e
 
     module _ (k : Link) (n next : ℕ) (e : h ≡ Read k n next) where
-      pub bad_rows : (m p : ℕ) → rows bs k.period n [] [] at ≡ stopped m p → rest_gives bs at h oldD oldO ≡ refuses m p oldD oldO
+      pub bad_rows : (m p : ℕ) → rows bs k.period n [] [] at ≡ stopped m p → rest_gives bs at h old_d old_o ≡ refuses m p old_d old_o
       unfolding headed delivered rest_gives
       bad_rows m p f = rw (e, f)
 
       pub all_rows : (ds os : List ℕ) (end : ℕ) → rows bs k.period n [] [] at ≡ got (record { delays = ds; offsets = os }) end →
-          rest_gives bs at h oldD oldO ≡ delivered (closing bs k ds os end) oldD oldO
+          rest_gives bs at h old_d old_o ≡ delivered (closing bs k ds os end) old_d old_o
       unfolding headed rest_gives
       all_rows ds os end f = rw (e, f)
 
 -- the rest, from where the reader stands after the header, is what the file means
-module _ (bs oldD oldO : List ℕ) where
+module _ (bs old_d old_o : List ℕ) where
   goes_on : (at : ℕ) (s : Step Head) → means s (λ h _. rest bs h (after at s)) ≡ means s (λ h next. rest bs h next)
   goes_on at (got h next) = refl
   goes_on at (stopped n p) = refl
 
-  whole : (h : Header) → headed h ≡ tagged bs 4 → rest_gives bs (after 4 (headed h)) h oldD oldO ≡ read_gives bs oldD oldO
+  whole : (h : Header) → headed h ≡ tagged bs 4 → rest_gives bs (after 4 (headed h)) h old_d old_o ≡ read_gives bs old_d old_o
   unfolding rest_gives read_gives meaning body
   whole h e =
-      ap (λ (s : Step Head). delivered (means s (λ x _. rest bs x (after 4 s))) oldD oldO) e
-      ∙ ap (λ (m : Meaning). delivered m oldD oldO) (goes_on 4 (tagged bs 4) ∙ go (begins tag bs))
+      ap (λ (s : Step Head). delivered (means s (λ x _. rest bs x (after 4 s))) old_d old_o) e
+      ∙ ap (λ (m : Meaning). delivered m old_d old_o) (goes_on 4 (tagged bs 4) ∙ go (begins tag bs))
     where
       go : (b : Bool) → means (cond b (header bs 4) (stopped (tag_fault bs) 0)) (λ x next. rest bs x next)
           ≡ cond b (body bs 4) (refused (tag_fault bs) 0)
@@ -69,7 +69,7 @@ module _ (bs oldD oldO : List ℕ) where
       go false = refl
 
   pub as_read : (h : Header) (m : ℕ) (r : PlanRead) (ds os : List ℕ) → headed h ≡ tagged bs 4 → m ≡ after 4 (headed h) → Bytes bs →
-      Gives (rest_gives bs m h oldD oldO) r ds os → Gives (read_gives bs oldD oldO) r ds os × IsFileOf r bs ds os
+      Gives (rest_gives bs m h old_d old_o) r ds os → Gives (read_gives bs old_d old_o) r ds os × IsFileOf r bs ds os
   as_read h m r ds os e place bytes given =
-      let all = subst (λ (g : ReadGives). Gives g r ds os) (ap (λ (n : ℕ). rest_gives bs n h oldD oldO) place ∙ whole h e) given in
-      (all, is_file_of bs oldD oldO ds os r bytes all)
+      let all = subst (λ (g : ReadGives). Gives g r ds os) (ap (λ (n : ℕ). rest_gives bs n h old_d old_o) place ∙ whole h e) given in
+      (all, is_file_of bs old_d old_o ds os r bytes all)

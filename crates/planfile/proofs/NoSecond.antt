@@ -25,9 +25,9 @@ read_again (Plan k n) = refl
 read_again (ReadRefused n p) = refl
 
 -- of a reader: an answer and the two lists that it leaves
-pub no_second_reading : (bs oldD oldO : List ℕ) (r r' : PlanRead) (ds ds' os os' : List ℕ) → Gives (read_gives bs oldD oldO) r ds os →
-    Gives (read_gives bs oldD oldO) r' ds' os' → (r ≡ r') × (ds ≡ ds') × (os ≡ os')
-no_second_reading bs oldD oldO r r' ds ds' os os' w v =
+pub no_second_reading : (bs old_d old_o : List ℕ) (r r' : PlanRead) (ds ds' os os' : List ℕ) → Gives (read_gives bs old_d old_o) r ds os →
+    Gives (read_gives bs old_d old_o) r' ds' os' → (r ≡ r') × (ds ≡ ds') × (os ≡ os')
+no_second_reading bs old_d old_o r r' ds ds' os os' w v =
     let same = no_second_outcome read_said unread read_again w v in
     (same.0, ap (λ (l : Lists). l.delays) same.1, ap (λ (l : Lists). l.offsets) same.1)
 

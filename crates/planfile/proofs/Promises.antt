@@ -49,16 +49,16 @@ Writes k ds os old r new = gives (written_said r) new ≡ write_gives k ds os ol
 
 -- the answer r and the two lists meet the reader's contract on the bytes bs
 abbrev pub Reads : List ℕ → List ℕ → List ℕ → PlanRead → List ℕ → List ℕ → Type 0
-Reads bs oldD oldO r ds os = Gives (read_gives bs oldD oldO) r ds os
+Reads bs old_d old_o r ds os = Gives (read_gives bs old_d old_o) r ds os
 
 -- a refused reading, with both lists kept
 abbrev pub RefusedAt : ℕ → ℕ → PlanRead → List ℕ → List ℕ → List ℕ → List ℕ → Type 0
-RefusedAt n p r oldD ds oldO os = (r ≡ ReadRefused n p) × (ds ≡ oldD) × (os ≡ oldO)
+RefusedAt n p r old_d ds old_o os = (r ≡ ReadRefused n p) × (ds ≡ old_d) × (os ≡ old_o)
 
-refused_so : (bs oldD oldO : List ℕ) (n p : ℕ) → refuses n p oldD oldO ≡ read_gives bs oldD oldO → {r : PlanRead} {ds os : List ℕ}
-    → Reads bs oldD oldO r ds os → RefusedAt n p r oldD ds oldO os
+refused_so : (bs old_d old_o : List ℕ) (n p : ℕ) → refuses n p old_d old_o ≡ read_gives bs old_d old_o → {r : PlanRead} {ds os : List ℕ}
+    → Reads bs old_d old_o r ds os → RefusedAt n p r old_d ds old_o os
 unfolding read_said
-refused_so bs oldD oldO n p e {r} {ds} {os} w = no_second_reading bs oldD oldO r (ReadRefused n p) ds oldD os oldO w e
+refused_so bs old_d old_o n p e {r} {ds} {os} w = no_second_reading bs old_d old_o r (ReadRefused n p) ds old_d os old_o w e
 
 module _ (k : Link) (ds os old : List ℕ) (r : PlanWritten) (new : List ℕ) (w : Writes k ds os old r new) where
   -- the file in the front of the buffer
@@ -95,14 +95,14 @@ module _ (k : Link) (ds os old : List ℕ) (r : PlanWritten) (new : List ℕ) (w
       (u.1.earlier, u.0, u.1.crossing, u.1.first_one, same.0, same.1)
 
   -- "A plan written to a file reads back the same"
-  pub read_what_was_written : (n : ℕ) → r ≡ File n → (oldD oldO : List ℕ) → length ds ≤ length oldD → length os ≤ length oldO
-      → (q : PlanRead) (ds' os' : List ℕ) → Reads (take n new) oldD oldO q ds' os'
-      → (q ≡ Plan k (length ds)) × (ds' ≡ on_front ds oldD) × (os' ≡ on_front os oldO)
+  pub read_what_was_written : (n : ℕ) → r ≡ File n → (old_d old_o : List ℕ) → length ds ≤ length old_d → length os ≤ length old_o
+      → (q : PlanRead) (ds' os' : List ℕ) → Reads (take n new) old_d old_o q ds' os'
+      → (q ≡ Plan k (length ds)) × (ds' ≡ on_front ds old_d) × (os' ≡ on_front os old_o)
   unfolding read_said
-  read_what_was_written n e oldD oldO h l q ds' os' v =
+  read_what_was_written n e old_d old_o h l q ds' os' v =
       let f = file_of n e in
-      no_second_reading (plan_bytes k ds os) oldD oldO q (Plan k (length ds)) ds' (on_front ds oldD) os' (on_front os oldO)
-      (rw f.1 at v) (reads_back k ds os f.0 oldD oldO h l)
+      no_second_reading (plan_bytes k ds os) old_d old_o q (Plan k (length ds)) ds' (on_front ds old_d) os' (on_front os old_o)
+      (rw f.1 at v) (reads_back k ds os f.0 old_d old_o h l)
 
 -- "each accepted file is the only one for its plan": no file for two plans,
 pub one_plan : (k k' : Link) (ds ds' os os' old old' : List ℕ) (n n' : ℕ) (new new' : List ℕ) → Writes k ds os old (File n) new
@@ -117,80 +117,80 @@ one_plan k k' ds ds' os os' old old' n n' new new' w w' e =
     (cc, cc, cc)
 
 -- every accepted file is the bytes that writing its plan gives,
-pub accepted_is_written : (bs oldD oldO : List ℕ) → Bytes bs → (k : Link) (n : ℕ) (ds os : List ℕ) → Reads bs oldD oldO (Plan k n) ds os
-    → AcceptedFile bs oldD oldO k n ds os
+pub accepted_is_written : (bs old_d old_o : List ℕ) → Bytes bs → (k : Link) (n : ℕ) (ds os : List ℕ) → Reads bs old_d old_o (Plan k n) ds os
+    → AcceptedFile bs old_d old_o k n ds os
 accepted_is_written = accepted_file
 
 -- the same as the reader's contract says it,
-pub is_file_of : (bs oldD oldO ds os : List ℕ) (r : PlanRead) → Bytes bs → Reads bs oldD oldO r ds os → IsFileOf r bs ds os
-is_file_of bs oldD oldO ds os (ReadRefused n p) h w = tt
-is_file_of bs oldD oldO ds os (Plan k n) h w =
-    let a = accepted_file bs oldD oldO h k n ds os w in
+pub is_file_of : (bs old_d old_o ds os : List ℕ) (r : PlanRead) → Bytes bs → Reads bs old_d old_o r ds os → IsFileOf r bs ds os
+is_file_of bs old_d old_o ds os (ReadRefused n p) h w = tt
+is_file_of bs old_d old_o ds os (Plan k n) h w =
+    let a = accepted_file bs old_d old_o h k n ds os w in
     rw (a.front_delays, a.front_offsets) a.bytes
 
 -- and no two files for one plan
-pub one_file : (bs bs' oldD oldD' oldO oldO' : List ℕ) → Bytes bs → Bytes bs' → (k : Link) (n : ℕ) (ds ds' os os' : List ℕ)
-    → Reads bs oldD oldO (Plan k n) ds os → Reads bs' oldD' oldO' (Plan k n) ds' os' → take n ds ≡ take n ds' → take n os ≡ take n os'
+pub one_file : (bs bs' old_d old_d' old_o old_o' : List ℕ) → Bytes bs → Bytes bs' → (k : Link) (n : ℕ) (ds ds' os os' : List ℕ)
+    → Reads bs old_d old_o (Plan k n) ds os → Reads bs' old_d' old_o' (Plan k n) ds' os' → take n ds ≡ take n ds' → take n os ≡ take n os'
     → bs ≡ bs'
-one_file bs bs' oldD oldD' oldO oldO' h h' k n ds ds' os os' w w' e f =
-    is_file_of bs oldD oldO ds os (Plan k n) h w ∙ rw (e, f) (sym (is_file_of bs' oldD' oldO' ds' os' (Plan k n) h' w'))
+one_file bs bs' old_d old_d' old_o old_o' h h' k n ds ds' os os' w w' e f =
+    is_file_of bs old_d old_o ds os (Plan k n) h w ∙ rw (e, f) (sym (is_file_of bs' old_d' old_o' ds' os' (Plan k n) h' w'))
 
-module _ (k : Link) (ds os : List ℕ) (g : GoodPlan k ds os) (oldD oldO : List ℕ) (r : PlanRead) (ds' os' : List ℕ) where
+module _ (k : Link) (ds os : List ℕ) (g : GoodPlan k ds os) (old_d old_o : List ℕ) (r : PlanRead) (ds' os' : List ℕ) where
   -- with bytes added at its end a file is 22, at the first of them
-  pub bytes_added : (b : ℕ) (bs : List ℕ) → Reads (plan_bytes k ds os ++ (b ∷ bs)) oldD oldO r ds' os'
-      → RefusedAt left_over (length (plan_bytes k ds os)) r oldD ds' oldO os'
+  pub bytes_added : (b : ℕ) (bs : List ℕ) → Reads (plan_bytes k ds os ++ (b ∷ bs)) old_d old_o r ds' os'
+      → RefusedAt left_over (length (plan_bytes k ds os)) r old_d ds' old_o os'
   unfolding read_gives delivered
-  bytes_added b bs = refused_so _ oldD oldO left_over _ (rw (added_means k ds os b bs g))
+  bytes_added b bs = refused_so _ old_d old_o left_over _ (rw (added_means k ds os b bs g))
 
   -- cut anywhere it is 19, at the first byte of the tag or number that was cut
-  pub bytes_cut : (m : ℕ) → m < length (plan_bytes k ds os) → Reads (take m (plan_bytes k ds os)) oldD oldO r ds' os'
-      → RefusedAt cut_off (place_of k ds os m) r oldD ds' oldO os'
+  pub bytes_cut : (m : ℕ) → m < length (plan_bytes k ds os) → Reads (take m (plan_bytes k ds os)) old_d old_o r ds' os'
+      → RefusedAt cut_off (place_of k ds os m) r old_d ds' old_o os'
   unfolding read_gives delivered
-  bytes_cut m h = refused_so _ oldD oldO cut_off _ (rw (cut_anywhere k ds os m g h))
+  bytes_cut m h = refused_so _ old_d old_o cut_off _ (rw (cut_anywhere k ds os m g h))
 
 -- "only a cut file is worth fetching again": of an accepted file
-module _ (bs oldD oldO : List ℕ) (h : Bytes bs) (k : Link) (n : ℕ) (ds os : List ℕ) (w : Reads bs oldD oldO (Plan k n) ds os)
-    (oldD' oldO' : List ℕ) (r : PlanRead) (ds' os' : List ℕ) where
+module _ (bs old_d old_o : List ℕ) (h : Bytes bs) (k : Link) (n : ℕ) (ds os : List ℕ) (w : Reads bs old_d old_o (Plan k n) ds os)
+    (old_d' old_o' : List ℕ) (r : PlanRead) (ds' os' : List ℕ) where
   its_plan : GoodPlan k (take n ds) (take n os)
-  its_plan = let a = accepted_file bs oldD oldO h k n ds os w in rw (a.front_delays, a.front_offsets) a.clear.0
+  its_plan = let a = accepted_file bs old_d old_o h k n ds os w in rw (a.front_delays, a.front_offsets) a.clear.0
 
   its_bytes : bs ≡ plan_bytes k (take n ds) (take n os)
-  its_bytes = is_file_of bs oldD oldO ds os (Plan k n) h w
+  its_bytes = is_file_of bs old_d old_o ds os (Plan k n) h w
 
   -- each proper front is 19, and is nothing else
-  pub front_is_cut : (m : ℕ) → m < length bs → Reads (take m bs) oldD' oldO' r ds' os'
-      → RefusedAt cut_off (place_of k (take n ds) (take n os) m) r oldD' ds' oldO' os'
+  pub front_is_cut : (m : ℕ) → m < length bs → Reads (take m bs) old_d' old_o' r ds' os'
+      → RefusedAt cut_off (place_of k (take n ds) (take n os) m) r old_d' ds' old_o' os'
   front_is_cut m l v =
-      bytes_cut k (take n ds) (take n os) its_plan oldD' oldO' r ds' os' m (rw its_bytes at l) (rw its_bytes at v)
+      bytes_cut k (take n ds) (take n os) its_plan old_d' old_o' r ds' os' m (rw its_bytes at l) (rw its_bytes at v)
 
   -- with bytes behind it it is 22, at its old length
-  pub more_is_left_over : (b : ℕ) (xs : List ℕ) → Reads (bs ++ (b ∷ xs)) oldD' oldO' r ds' os'
-      → RefusedAt left_over (length bs) r oldD' ds' oldO' os'
+  pub more_is_left_over : (b : ℕ) (xs : List ℕ) → Reads (bs ++ (b ∷ xs)) old_d' old_o' r ds' os'
+      → RefusedAt left_over (length bs) r old_d' ds' old_o' os'
   more_is_left_over b xs v =
-      rw its_bytes (bytes_added k (take n ds) (take n os) its_plan oldD' oldO' r ds' os' b xs (rw its_bytes at v))
+      rw its_bytes (bytes_added k (take n ds) (take n os) its_plan old_d' old_o' r ds' os' b xs (rw its_bytes at v))
 
 -- so a file that is refused with another number than 19 is not mended by what is missing: no longer file that begins so is accepted
-pub only_cut_is_mended : (bs oldD oldO : List ℕ) (n at : ℕ) (ds os : List ℕ) → Reads bs oldD oldO (ReadRefused n at) ds os
-    → (n ≡ cut_off → ⊥) → (b : ℕ) (xs oldD' oldO' : List ℕ) → Bytes (bs ++ (b ∷ xs)) → (k : Link) (m : ℕ) (ds' os' : List ℕ)
-    → Reads (bs ++ (b ∷ xs)) oldD' oldO' (Plan k m) ds' os' → ⊥
-only_cut_is_mended bs oldD oldO n at ds os w other b xs oldD' oldO' h k m ds' os' v =
+pub only_cut_is_mended : (bs old_d old_o : List ℕ) (n at : ℕ) (ds os : List ℕ) → Reads bs old_d old_o (ReadRefused n at) ds os
+    → (n ≡ cut_off → ⊥) → (b : ℕ) (xs old_d' old_o' : List ℕ) → Bytes (bs ++ (b ∷ xs)) → (k : Link) (m : ℕ) (ds' os' : List ℕ)
+    → Reads (bs ++ (b ∷ xs)) old_d' old_o' (Plan k m) ds' os' → ⊥
+only_cut_is_mended bs old_d old_o n at ds os w other b xs old_d' old_o' h k m ds' os' v =
     let inside : length bs < length (bs ++ (b ∷ xs)) = omega (arith, length-append bs (b ∷ xs)) in
     let front : take (length bs) (bs ++ (b ∷ xs)) ≡ bs = take-append_seam bs (b ∷ xs) in
     let longer = bs ++ (b ∷ xs) in
-    let cut = front_is_cut longer oldD' oldO' h k m ds' os' v oldD oldO (ReadRefused n at) ds os (length bs) inside (rw front w) in
+    let cut = front_is_cut longer old_d' old_o' h k m ds' os' v old_d old_o (ReadRefused n at) ds os (length bs) inside (rw front w) in
     other (cc cut.0)
 
 -- "Please split it by cause": each of 16, 19, 20, 21 and 22 is given exactly where its cause is the first fault
-module _ (bs oldD oldO : List ℕ) (r : PlanRead) (ds os : List ℕ) (w : Reads bs oldD oldO r ds os) (n at : ℕ) where
+module _ (bs old_d old_o : List ℕ) (r : PlanRead) (ds os : List ℕ) (w : Reads bs old_d old_o r ds os) (n at : ℕ) where
   pub told_by_cause : FormFault bs n at ↔ ((r ≡ ReadRefused n at) × (form_number n ≡ true))
   unfolding read_gives delivered
   told_by_cause = (there, back)
     where
       there : FormFault bs n at → (r ≡ ReadRefused n at) × (form_number n ≡ true)
-      there f = ((refused_so bs oldD oldO n at (rw (form_fault_refused bs n at f)) w).0, form_number_lem bs n at f)
+      there f = ((refused_so bs old_d old_o n at (rw (form_fault_refused bs n at f)) w).0, form_number_lem bs n at f)
 
       back : (r ≡ ReadRefused n at) × (form_number n ≡ true) → FormFault bs n at
-      back f = only_form_faults bs n at f.1 (refused_means bs oldD oldO ds os n at f.1 (rw f.0 at w))
+      back f = only_form_faults bs n at f.1 (refused_means bs old_d old_o ds os n at f.1 (rw f.0 at w))
 
 -- no file has two of these faults
 pub one_cause : (bs : List ℕ) (n n' at at' : ℕ) → FormFault bs n at → FormFault bs n' at' → (n ≡ n') × (at ≡ at')
@@ -199,11 +199,11 @@ one_cause bs n n' at at' f g =
     (cc, cc)
 
 -- "16 keeps the wrong tag", "for the tag always 0"
-pub wrong_tag_exactly : (bs oldD oldO : List ℕ) (r : PlanRead) (ds os : List ℕ) → Reads bs oldD oldO r ds os → (at : ℕ)
+pub wrong_tag_exactly : (bs old_d old_o : List ℕ) (r : PlanRead) (ds os : List ℕ) → Reads bs old_d old_o r ds os → (at : ℕ)
     → (r ≡ ReadRefused wrong_tag at) ↔ ((at ≡ 0) × Differ bs tag)
 unfolding form_number
-wrong_tag_exactly bs oldD oldO r ds os w at =
-    let told = told_by_cause bs oldD oldO r ds os w wrong_tag at in
+wrong_tag_exactly bs old_d old_o r ds os w at =
+    let told = told_by_cause bs old_d old_o r ds os w wrong_tag at in
     ((λ e. only_the_tag bs at (told.1 (e, refl))), (λ t. (told.0 (tag_wrong refl t.0 t.1)).0))
 
 -- A number has one encoding: its bytes read as it, and bytes that read as it, to their end, are its bytes.
@@ -219,18 +219,19 @@ one_encoding bs v h l = (there, back)
 -- "After the last number: .. bytes left over, then 18, then 11."
 module _ (bs : List ℕ) (k : Link) (n at : ℕ) (w : Rows) (end : ℕ) (t : begins tag bs ≡ true)
     (e : header bs (length tag) ≡ got (record { link = k; rows = n }) at) (f : rows bs k.period n [] [] at ≡ got w end)
-    (oldD oldO : List ℕ) (r : PlanRead) (ds os : List ℕ) (v : Reads bs oldD oldO r ds os) where
-  closes_so : read_gives bs oldD oldO ≡ delivered (closing bs k w.delays w.offsets end) oldD oldO
+    (old_d old_o : List ℕ) (r : PlanRead) (ds os : List ℕ) (v : Reads bs old_d old_o r ds os) where
+  closes_so : read_gives bs old_d old_o ≡ delivered (closing bs k w.delays w.offsets end) old_d old_o
   unfolding read_gives meaning body
   closes_so = rw (t, e, f)
 
-  pub left_over_first : end < length bs → RefusedAt left_over end r oldD ds oldO os
-  left_over_first h = refused_so bs oldD oldO left_over end (sym (closes_so ∙ bytes_left_over bs k w.delays w.offsets end oldD oldO h)) v
+  pub left_over_first : end < length bs → RefusedAt left_over end r old_d ds old_o os
+  left_over_first h = refused_so bs old_d old_o left_over end
+  (sym (closes_so ∙ bytes_left_over bs k w.delays w.offsets end old_d old_o h)) v
 
   pub after_the_last_number : Bytes bs → length bs ≤ end → (Clear k.period (span_of k) w.delays w.offsets → ⊥)
       → (i : ℕ) × (j : ℕ) × (c : ℕ) × FirstCollision k.period (span_of k) w.delays w.offsets i j c
-      × RefusedAt not_clear j r oldD ds oldO os
+      × RefusedAt not_clear j r old_d ds old_o os
   after_the_last_number b h c =
       let u = unclear k w.delays w.offsets (got_good bs k n at w end b e f) c in
-      let closed = unclear-closed bs k w.delays w.offsets end oldD oldO h not_clear u.0 u.1.judged in
-      (u.1.earlier, u.0, u.1.crossing, u.1.first_one, refused_so bs oldD oldO not_clear u.0 (sym (closes_so ∙ closed)) v)
+      let closed = unclear-closed bs k w.delays w.offsets end old_d old_o h not_clear u.0 u.1.judged in
+      (u.1.earlier, u.0, u.1.crossing, u.1.first_one, refused_so bs old_d old_o not_clear u.0 (sym (closes_so ∙ closed)) v)

@@ -85,8 +85,8 @@ read_so : Reads (behind_tag four) [] [] (Refused 20 4) [] []
 unfolding read_said read_gives delivered meaning body header number read_number groups_read onto form_fault begins
 read_so = refl
 
-pub never_mended : (b : ℕ) (xs oldD oldO : List ℕ) → Bytes (behind_tag (four ++ (b ∷ xs))) → (k : Link) (m : ℕ)
-    → (ds os : List ℕ) → Reads (behind_tag (four ++ (b ∷ xs))) oldD oldO (Plan k m) ds os → ⊥
+pub never_mended : (b : ℕ) (xs old_d old_o : List ℕ) → Bytes (behind_tag (four ++ (b ∷ xs))) → (k : Link) (m : ℕ)
+    → (ds os : List ℕ) → Reads (behind_tag (four ++ (b ∷ xs))) old_d old_o (Plan k m) ds os → ⊥
 never_mended = only_cut_is_mended (behind_tag four) [] [] 20 4 [] [] read_so (λ e. omega arith)
 
 pub fourth_byte_0 : Refuses (behind_tag (0x80 ∷ 0x80 ∷ 0x80 ∷ 0x00 ∷ [])) 21 4

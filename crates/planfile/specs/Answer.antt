@@ -84,30 +84,30 @@ abbrev pub Gives : ReadGives → PlanRead → List ℕ → List ℕ → Type 0
 Gives g r ds os = gives (read_said r) (lists ds os) ≡ g
 
 abbrev pub refuses : ℕ → ℕ → List ℕ → List ℕ → ReadGives
-refuses n p oldD oldO = keeping refuses_read (lists oldD oldO) n p
+refuses n p old_d old_o = keeping refuses_read (lists old_d old_o) n p
 
 -- a plan's rows in the fronts of the lists
 abbrev pub delivers : Link → List ℕ → List ℕ → List ℕ → List ℕ → ReadGives
-delivers k ds os oldD oldO = gives (reads_plan k (length ds)) (lists (on_front ds oldD) (on_front os oldO))
+delivers k ds os old_d old_o = gives (reads_plan k (length ds)) (lists (on_front ds old_d) (on_front os old_o))
 
 -- "then 11": either list shorter than the rows
 unfoldable pub delivered : Meaning → List ℕ → List ℕ → ReadGives
-delivered (plan k ds os) oldD oldO =
-    cond (ltb (length oldD) (length ds) || ltb (length oldO) (length os))
-    (refuses bad_length 0 oldD oldO)
-    (delivers k ds os oldD oldO)
-delivered (refused n p) oldD oldO = refuses n p oldD oldO
+delivered (plan k ds os) old_d old_o =
+    cond (ltb (length old_d) (length ds) || ltb (length old_o) (length os))
+    (refuses bad_length 0 old_d old_o)
+    (delivers k ds os old_d old_o)
+delivered (refused n p) old_d old_o = refuses n p old_d old_o
 
 -- what the reader gives once it has read the last number
 abbrev pub closes : List ℕ → ℕ → Link → List ℕ → List ℕ → List ℕ → List ℕ → ReadGives
-closes bs end k ds os oldD oldO = delivered (closing bs k ds os end) oldD oldO
+closes bs end k ds os old_d old_o = delivered (closing bs k ds os end) old_d old_o
 
 -- what the reader gives whose header is h, the rows standing from a place on
 unfoldable pub rest_gives : List ℕ → ℕ → Header → List ℕ → List ℕ → ReadGives
-rest_gives bs at h oldD oldO = delivered (means (headed h) (λ x _. rest bs x at)) oldD oldO
+rest_gives bs at h old_d old_o = delivered (means (headed h) (λ x _. rest bs x at)) old_d old_o
 
 unfoldable pub read_gives : List ℕ → List ℕ → List ℕ → ReadGives
-read_gives bs oldD oldO = delivered (meaning bs) oldD oldO
+read_gives bs old_d old_o = delivered (meaning bs) old_d old_o
 
 -- a file that was read as a plan is the bytes of that plan, which stands in the fronts of ds and os
 abbrev pub IsFileOf : PlanRead → List ℕ → List ℕ → List ℕ → Type 0

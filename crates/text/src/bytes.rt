@@ -1,10 +1,10 @@
 // Bytes: where one comes first, and whether two lists of them are the same.
 ghost use Rattle.std.specs.Prelude.{◌≡◌, ◌≤◌, length};
-ghost use Rattle.text.specs.Bytes.{seek as seekOf, same as sameOf};
+ghost use Rattle.text.specs.Bytes.{seek, same};
 
 // The place of the first such byte, or the length.
 pub(crate) fn seek(bytes: &[u8], byte: u8) -> usize
-    ensures { (result ≡ seekOf byte bytes.now) × (result ≤ length bytes.now) }
+    ensures { (result ≡ seek byte bytes.now) × (result ≤ length bytes.now) }
 {
     let mut i = 0;
     while i < bytes.len() {
@@ -18,7 +18,7 @@ pub(crate) fn seek(bytes: &[u8], byte: u8) -> usize
 
 // The same bytes.
 pub(crate) fn same(a: &[u8], b: &[u8]) -> bool
-    ensures { result ≡ sameOf a.now b.now }
+    ensures { result ≡ same a.now b.now }
 {
     if a.len() != b.len() {
         return false;
