@@ -11,7 +11,7 @@ use borrow.Author.Tests.{not-true}
 use Rattle.ground.specs.Judging.{first, outside, and_then}
 use Rattle.ground.specs.Protocol.{gives}
 use Rattle.ground.specs.Words.{begins, Differ}
-use Rattle.ground.proofs.Answers.{Told, told, stopped as told-stopped, through}
+use Rattle.ground.proofs.Answers.{Told, told, stopped as told_stopped, through}
 use Rattle.ground.proofs.Beginning.{begins_agree, agree_begins, neither_begins}
 use Rattle.ground.proofs.Bools.{never, clash, is_false, lt_or_ge}
 use Rattle.ground.proofs.Faults.{all_numbers, number_of}
@@ -100,7 +100,7 @@ closing_stops bs k ds os at n q f e = ⊎_elim some none (lt_or_ge at (length bs
         (place, sym number, h)
 
     other : Told refused (first (clear_faults k ds os)) (plan k ds os) (refused n q) → (at ≡ q) × (n ≡ left_over) × (at < length bs)
-    other (told-stopped m a j x) =
+    other (told_stopped m a j x) =
         let same : n ≡ m = cc in
         clash (rw same at f) (not-true _ (number_of (λ x. not (form_number x)) (clear_faults k ds os) m a refl j))
     other (through j x) = never (cc)

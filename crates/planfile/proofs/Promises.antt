@@ -35,7 +35,7 @@ use Rattle.planfile.specs.declared.PlanRead.TheVariants.{Plan, Refused as ReadRe
 use Rattle.planfile.specs.declared.PlanWritten.{PlanWritten}
 use Rattle.planfile.specs.declared.PlanWritten.TheVariants.{File, Refused as WriteRefused}
 use Rattle.planfile.proofs.Accepted.{ClearPlan, means_its_plan, added_means, reads_back, AcceptedFile, accepted_file}
-use Rattle.planfile.proofs.Closing.{bytes_left_over, unclear as unclear-closed}
+use Rattle.planfile.proofs.Closing.{bytes_left_over, unclear as unclear_closed}
 use Rattle.planfile.proofs.Damage.{cut_anywhere}
 use Rattle.planfile.proofs.FirstFault.{form_fault_refused, form_number_lem, only_form_faults, only_the_tag, refused_means}
 use Rattle.planfile.proofs.Encoding.{number_only, number_reads}
@@ -225,13 +225,13 @@ module _ (bs : List ℕ) (k : Link) (n at : ℕ) (w : Rows) (end : ℕ) (t : beg
   closes_so = rw (t, e, f)
 
   pub left_over_first : end < length bs → RefusedAt left_over end r old_d ds old_o os
-  left_over_first h = refused_so bs old_d old_o left_over end
-  (sym (closes_so ∙ bytes_left_over bs k w.delays w.offsets end old_d old_o h)) v
+  left_over_first h =
+      refused_so bs old_d old_o left_over end (sym (closes_so ∙ bytes_left_over bs k w.delays w.offsets end old_d old_o h)) v
 
   pub after_the_last_number : Bytes bs → length bs ≤ end → (Clear k.period (span_of k) w.delays w.offsets → ⊥)
       → (i : ℕ) × (j : ℕ) × (c : ℕ) × FirstCollision k.period (span_of k) w.delays w.offsets i j c
       × RefusedAt not_clear j r old_d ds old_o os
   after_the_last_number b h c =
       let u = unclear k w.delays w.offsets (got_good bs k n at w end b e f) c in
-      let closed = unclear-closed bs k w.delays w.offsets end old_d old_o h not_clear u.0 u.1.judged in
+      let closed = unclear_closed bs k w.delays w.offsets end old_d old_o h not_clear u.0 u.1.judged in
       (u.1.earlier, u.0, u.1.crossing, u.1.first_one, refused_so bs old_d old_o not_clear u.0 (sym (closes_so ∙ closed)) v)

@@ -17,7 +17,7 @@ use Rattle.ground.specs.Protocol.{gives, keeping}
 use Rattle.ground.specs.declared.Judged.TheVariants.{Fine, Fault}
 use Rattle.ground.proofs.Adding.{same_length, and_then, nothing_yet}
 use Rattle.ground.proofs.Answers.{refused, goes_on}
-use Rattle.ground.proofs.Faults.{fine as no-fault, hit, pass, front_hit, front_pass}
+use Rattle.ground.proofs.Faults.{fine as no_fault, hit, pass, front_hit, front_pass}
 use Rattle.planfile.specs.Number.{number_bytes}
 use Rattle.planfile.specs.Format.{tag, header_bytes, rows_bytes, plan_bytes, header_room, rows_room, RowsFit}
 use Rattle.planfile.specs.Answer.{writes, refuses_write, stored, write_faults, write_gives}
@@ -48,7 +48,7 @@ module _ (k : Link) (ds os old : List ℕ) where
     unfolding write_gives write_faults
     write_done h =
         goes_on (keeping refuses_write old)
-        (sym (front_pass (clear_faults k ds os) _ Fine fine (pass [] _ bad_length 0 (le-ltb _ _ h) no-fault))) refl
+        (sym (front_pass (clear_faults k ds os) _ Fine fine (pass [] _ bad_length 0 (le-ltb _ _ h) no_fault))) refl
 
 pub length_header : (k : Link) (n : ℕ) → length (header_bytes k n) ≤ header_room
 unfolding header_bytes

@@ -18,9 +18,9 @@ use Rattle.quick.proofs.Candidates.{candidate_low}
 use Rattle.quick.proofs.Entries.{each_offset, multiples}
 use Rattle.quick.proofs.LightLoads.{light_has_a_plan}
 use Rattle.quick.proofs.Promises.{plan_is_right, right_clear}
-use Rattle.quick.proofs.Worked.{link, ds₁, old, plan₁, fits, right, multiples as by-multiples}
+use Rattle.quick.proofs.Worked.{link, ds₁, old, plan₁, fits, right, multiples as by_multiples}
 use Rattle.oneslot.specs.Answer.{one_slot}
-use Rattle.oneslot.proofs.Promises.{plan_is_right as one-slot-right}
+use Rattle.oneslot.proofs.Promises.{plan_is_right as one_slot_right}
 use Rattle.oneslot.proofs.Worked.{let_in}
 use Rattle.search.specs.Answer.{Answers, ClearChoice}
 use Rattle.search.specs.declared.Answer.TheVariants.{None}
@@ -59,7 +59,7 @@ module _ (k : Link) (ds old new : List ℕ) where
   pub one_slot_never_none : gives (said Plan) new ≡ one_slot k ds old → (budget : ℕ) (list : List ℕ) (t : ℕ) (left : List ℕ)
       → Answers k ds budget list (None t) left → ⊥
   one_slot_never_none e =
-      let g = (one-slot-right k ds old Plan new e).0 refl in
+      let g = (one_slot_right k ds old Plan new e).0 refl in
       clear_plan_never_none k ds g.offsets (record { as_many = g.as_many; inside = g.inside; clear = g.clear })
 
 -- nor is it ever said of a light load
@@ -76,7 +76,7 @@ module _ (budget : ℕ) (list : List ℕ) (t : ℕ) (left : List ℕ) where
   fits_never_none = first_fit_never_none (link 5 2) (0 ∷ 4 ∷ []) old (0 ∷ 3 ∷ 9 ∷ 9 ∷ []) fits budget list t left
 
   pub multiples_never_none : Answers (link 10 2) ds₁ budget list (None t) left → ⊥
-  multiples_never_none = meta_offset_never_none (link 10 2) ds₁ old plan₁ by-multiples budget list t left
+  multiples_never_none = meta_offset_never_none (link 10 2) ds₁ old plan₁ by_multiples budget list t left
 
   pub move_never_none : Answers (link 4 1) (0 ∷ 2 ∷ 1 ∷ 1 ∷ []) budget list (None t) left → ⊥
   move_never_none =
