@@ -1,6 +1,6 @@
 //! Reads a text table on standard input, plans it with the exact planner and prints the plan. Exit status 1 if it is refused.
 //!
-//!     rt staticlib seamwhisk
+//!     bash -c '. tests/fresh && fresh_archive'
 //!     rustc -O examples/plan.rs -L target/staticlib -l static=seamwhisk
 //!     ./plan <tables/first.txt
 
