@@ -25,7 +25,7 @@ LEMMAS = (
 ).split()
 OTHERS = {"one-slot": "is_one_slot", "wrong-tag": "tag_wrong"}
 # parameters, and names that one file gives to another's definition
-OTHERS.update({"oldD": "old_d", "oldO": "old_o", "goesOn": "goes_on", "searchedSaid": "searched_said"})
+OTHERS.update({"oldD": "old_d", "oldO": "old_o", "oldD'": "old_d'", "oldO'": "old_o'", "goesOn": "goes_on", "searchedSaid": "searched_said"})
 OTHERS.update({f"getD-{n}": f"get_or_{n}" for n in ("behind", "listed", "mapped", "ones")})
 IN_CRATE = {
     "checker/proofs": {"met_by": "met_by_lem"},

@@ -11,7 +11,7 @@ use ground::Judged;
 use link::limits::{MAX_ROWS, NOT_CLEAR};
 use link::{Link, Met};
 
-#[derive(Drop)]
+#[derive(Clone, Copy)]
 pub enum Checked {
     Clear,
     Collision {

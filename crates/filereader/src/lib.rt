@@ -9,14 +9,14 @@ ghost use Rattle.filereader.specs.Held.{ReadsNumber};
 
 use planfile::{PlanRead, Taken, reader};
 
-#[derive(Drop)]
+#[derive(Clone, Copy)]
 pub struct FileReader<'a> {
     pub bytes: &'a [u8],
     pub at: usize,
 }
 
 // What was read, and the reader after it.
-#[derive(Drop)]
+#[derive(Clone, Copy)]
 pub struct NumberRead<'a> {
     pub reader: FileReader<'a>,
     pub taken: Taken,

@@ -6,7 +6,7 @@ ghost use Rattle.ground.specs.Words.{begins};
 ghost use Rattle.ground.specs.Lent.{on_front};
 
 // What judging says: nothing is wrong, or the first fault.
-#[derive(Drop)]
+#[derive(Clone, Copy)]
 pub enum Judged {
     Fine,
     Fault { number: u32, place: usize },

@@ -25,7 +25,7 @@ use text::Text;
 use text::limits::{CUT_LINE, LONG_TEXT, MAX_TEXT};
 
 // How many texts were answered, and what stopped the run, if anything did: the text at fault is the one behind them.
-#[derive(Drop)]
+#[derive(Clone, Copy)]
 pub enum Run {
     All {
         texts: usize,

@@ -15,7 +15,7 @@ pub struct Link {
 }
 
 // The least earlier row that is met, and the crossing.
-#[derive(Drop)]
+#[derive(Clone, Copy)]
 pub enum Met {
     Nobody,
     Row { row: usize, crossing: u32 },

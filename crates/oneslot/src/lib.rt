@@ -22,7 +22,7 @@ use quick::Planned;
 pub const NOT_ONE_SLOT: u32 = 25;
 
 // An earlier row that gives way, its new offset, and the new row's.
-#[derive(Drop)]
+#[derive(Clone, Copy)]
 pub enum Move {
     None,
     Row { row: usize, to: u32, offset: u32 },

@@ -67,13 +67,13 @@ enum RowsRead {
     Refused { number: u32, place: usize },
 }
 
-#[derive(Drop)]
+#[derive(Clone, Copy)]
 pub enum PlanRead {
     Plan { link: Link, rows: usize },
     Refused { number: u32, place: usize },
 }
 
-#[derive(Drop)]
+#[derive(Clone, Copy)]
 pub enum PlanWritten {
     File { length: usize },
     Refused { number: u32, place: usize },

@@ -14,7 +14,7 @@ use ground::Judged;
 use link::limits::{MAX_ROWS, NO_OFFSET};
 use link::{Link, Met};
 
-#[derive(Drop)]
+#[derive(Clone, Copy)]
 pub enum Planned {
     Plan,
     Refused { number: u32, place: usize },

@@ -85,7 +85,7 @@ fn paired(period: u32, span: u32, pairs: Pairs, i: usize, row: Record) -> Pairs
     requires { i < max_rows }
     ensures { (rs : List Record) → RowAt rs i row → Paired period span rs i pairs → Paired period span rs (i + 1) result }
 {
-    let before = &pairs.met;
+    let before = pairs.met;
     if let Met::Row { .. } = before {
         return pairs;
     }

@@ -13,14 +13,14 @@ use link::Link;
 use link::limits::MAX_ROWS;
 
 // The numbers of one crossing.
-#[derive(Drop)]
+#[derive(Clone, Copy)]
 pub struct Stretch {
     pub free: u32,
     pub stretches: u32,
     pub widest: u32,
 }
 
-#[derive(Drop)]
+#[derive(Clone, Copy)]
 pub enum Reported {
     Stretches { first: Stretch, second: Stretch },
     Refused { number: u32, place: usize },

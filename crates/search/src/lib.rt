@@ -21,7 +21,7 @@ use link::Link;
 use link::limits::MAX_ROWS;
 
 // A plan, no whole build, a budget that was not enough (each with its tests), or a refusal.
-#[derive(Drop)]
+#[derive(Clone, Copy)]
 pub enum Answer {
     Plan { tests: u64 },
     None { tests: u64 },

@@ -6,14 +6,14 @@ ghost use Rattle.text.specs.Steps.{InFront, number_says};
 const MAX_DIGITS: usize = 8;
 
 // What bytes say as a number.
-#[derive(Drop)]
+#[derive(Clone, Copy)]
 pub enum Number {
     Is { value: u32 },
     Not,
 }
 
 // So many digits in front of bytes, and their value.
-#[derive(Drop)]
+#[derive(Clone, Copy)]
 pub struct Front {
     pub value: u32,
     pub digits: usize,

@@ -22,14 +22,14 @@ enum Numbers {
 }
 
 // The first two lines: the link, and where the rows begin; or their first fault.
-#[derive(Drop)]
+#[derive(Clone, Copy)]
 pub enum Head {
     Rows { link: Link, at: usize },
     Wrong { number: u32, place: usize },
 }
 
 // A line behind them: a row with its delay, or the last one, and the place behind it; or its first fault.
-#[derive(Drop)]
+#[derive(Clone, Copy)]
 pub enum Line {
     More { delay: u32, next: usize },
     Last { next: usize },

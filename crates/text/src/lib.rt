@@ -22,14 +22,14 @@ use link::Link;
 use link::limits::{BAD_LENGTH, MAX_ROWS};
 
 // What the text says: its table, or the first fault.
-#[derive(Drop)]
+#[derive(Clone, Copy)]
 pub enum Read {
     Table { link: Link, rows: usize },
     Refused { number: u32, place: usize },
 }
 
 // The same for a text that may have bytes behind it: its table, and the place behind its last line.
-#[derive(Drop)]
+#[derive(Clone, Copy)]
 pub enum Text {
     Whole { link: Link, rows: usize, end: usize },
     Refused { number: u32, place: usize },
