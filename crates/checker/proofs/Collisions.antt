@@ -9,14 +9,14 @@ use lib.ListN.{length, get_or}
 use borrow.Author.Tests.{ltb-true}
 use Rattle.ground.specs.Least.{least, some}
 use Rattle.link.specs.Rows.{Crossing, numbered, start, hits, free, met_at, is_nobody, blocked}
-use Rattle.ground.specs.declared.Judged.{Judged}
-use Rattle.ground.specs.declared.Judged.TheVariants.{Fine, Fault}
-use Rattle.link.specs.declared.Met.{Met}
-use Rattle.link.specs.declared.Met.TheVariants.{Nobody, Row}
+use Rattle.ground.specs.Judging.{Judged}
+use Rattle.ground.specs.Judging.{Fine, Fault}
+use Rattle.link.specs.Rows.{Met}
+use Rattle.link.specs.Rows.{Nobody, Row}
 use Rattle.ground.specs.Protocol.{unless}
 use Rattle.ground.proofs.Answers.{let_through, Told, stopped, through, told}
 use Rattle.ground.proofs.Bools.{clash, never, lt_or_ge}
-use Rattle.link.proofs.Circle.{meets_true, meets_slot}
+use Rattle.link.proofs.OnCircle.{meets_true, meets_slot}
 use Rattle.link.proofs.Meeting.{FirstHit, hit_is, hit_either}
 use Rattle.ground.proofs.Minimum.{least_is, none_has, some_at}
 use Rattle.checker.specs.Answer.{Said, Verdict, clearly, colliding, refusing, met_by, name_as, named}

@@ -10,7 +10,7 @@ use lib.ListN.{length}
 use borrow.Author.Tests.{not-false}
 use Rattle.ground.specs.Judging.{first, when, at_row}
 use Rattle.ground.specs.Least.{least, some}
-use Rattle.ground.specs.declared.Judged.TheVariants.{Fine, Fault}
+use Rattle.ground.specs.Judging.{Fine, Fault}
 use Rattle.ground.proofs.Faults.{fine, hit_row, pass, passed, front_hit, front_pass, front_fine}
 use Rattle.ground.proofs.Minimum.{least_at, least_cong, none_has, some_none}
 use Rattle.link.specs.Limits.{not_clear}

@@ -10,8 +10,8 @@ use Rattle.ground.specs.Least.{least}
 use Rattle.link.specs.Limits.{max_rows}
 use Rattle.link.specs.Rows.{two, second, start, first_near, is_nobody, blocked}
 use Rattle.link.specs.Range.{InRange}
-use Rattle.link.specs.declared.Met.{Met}
-use Rattle.link.specs.declared.Met.TheVariants.{Nobody, Row}
+use Rattle.link.specs.Rows.{Met}
+use Rattle.link.specs.Rows.{Nobody, Row}
 use Rattle.ground.proofs.Filling.{stored}
 use Rattle.ground.proofs.Minimum.{least_at, some_at, some_none}
 use Rattle.link.proofs.Meeting.{Starts, told, nobody_free}

@@ -12,7 +12,7 @@ use Rattle.link.specs.Rows.{span_of, Clear, blocked}
 use Rattle.link.specs.declared.Link.{Link}
 use Rattle.link.proofs.Accepted.{good_plan, fine_plan}
 use Rattle.link.proofs.Clearness.{clear_in, clear_rows, rows_clear}
-use Rattle.ground.specs.declared.Judged.TheVariants.{Fine}
+use Rattle.ground.specs.Judging.{Fine}
 use Rattle.ground.proofs.Answers as answers
 use Rattle.ground.proofs.Bools.{never}
 use Rattle.checker.specs.Answer.{Said, Verdict, clear, collision, refusal, said, answer}

@@ -3,7 +3,7 @@ use mathlib.Core.Path.{◌≡◌, refl}
 use mathlib.Core.List.{List, [], ◌∷◌}
 use Prim.Native.Nat.{ℕ}
 use Rattle.ground.specs.Least.{least, one_more}
-use Rattle.ground.specs.declared.Judged.TheVariants.{Fine}
+use Rattle.ground.specs.Judging.{Fine}
 use Rattle.link.specs.Range.{GoodPlan}
 use Rattle.ground.specs.Judging.{first, outside, and_then}
 use Rattle.link.specs.Refusal.{link_faults, row_faults, offset_faults}

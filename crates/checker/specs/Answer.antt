@@ -6,8 +6,8 @@ use Rattle.ground.specs.Judging.{first}
 use Rattle.ground.specs.Protocol.{unless}
 use Rattle.link.specs.Refusal.{plan_faults}
 use Rattle.link.specs.declared.Link.{Link}
-use Rattle.link.specs.declared.Met.{Met}
-use Rattle.link.specs.declared.Met.TheVariants.{Nobody, Row}
+use Rattle.link.specs.Rows.{Met}
+use Rattle.link.specs.Rows.{Nobody, Row}
 use Rattle.checker.specs.declared.Checked.{Checked}
 use Rattle.checker.specs.declared.Checked.TheVariants.{Clear, Collision, Refused}
 

@@ -1,8 +1,8 @@
 -- Plans that are to be clear: what the stretch report, the writer and the reader of plan files judge.
 use Rattle.std.specs.Prelude.{List, [], ◌∷◌, ℕ, length}
 use Rattle.ground.specs.Judging.{Cause, at_row, and_then}
-use Rattle.ground.specs.declared.Judged.{Judged}
-use Rattle.ground.specs.declared.Judged.TheVariants.{Fine, Fault}
+use Rattle.ground.specs.Judging.{Judged}
+use Rattle.ground.specs.Judging.{Fine, Fault}
 use Rattle.link.specs.Limits.{not_clear}
 use Rattle.link.specs.Refusal.{plan_faults}
 use Rattle.link.specs.Rows.{span_of, blocked}

@@ -3,8 +3,8 @@
 use mathlib.Core.Path.{◌≡◌, refl, sym, ap, ◌∙◌}
 use Prim.Native.Nat.{ℕ}
 use Rattle.ground.specs.Protocol.{Outcome, gives, unless}
-use Rattle.ground.specs.declared.Judged.{Judged}
-use Rattle.ground.specs.declared.Judged.TheVariants.{Fine, Fault}
+use Rattle.ground.specs.Judging.{Judged}
+use Rattle.ground.specs.Judging.{Fine, Fault}
 
 module _ {O : Type 0} (refusing : ℕ → ℕ → O) where
   pub refused : {j : Judged} {n p : ℕ} (o : O) → j ≡ Fault n p → refusing n p ≡ unless refusing j o

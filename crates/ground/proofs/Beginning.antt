@@ -1,4 +1,4 @@
--- Bytes that begin with a word: the comparison from a place on, and what it says. Assumes nothing.
+-- Bytes that begin with a word: what the comparison says. Assumes nothing.
 use mathlib.Core.Path.{◌≡◌, refl, sym, ap}
 use mathlib.Core.Bool.{Bool, true, false, ◌&&◌}
 use mathlib.Core.List.{List, [], ◌∷◌, ◌++◌}
@@ -9,27 +9,17 @@ use lib.Dec.{eqb}
 use lib.ListN.{length, get_or, drop, drop_of_length-le}
 use lib.Seq.{drop-cons}
 use borrow.Author.Tests.{eqb-true, eqb-false, eq-eqb, ne_eqb}
+use Rattle.std.specs.List.{starts_with}
+use Rattle.std.proofs.lemmas.Bool.Decides.{nat_tests}
 use Rattle.ground.specs.Words.{begins, Differ}
 use Rattle.ground.proofs.Bools.{clash, and_parts, and_both}
 
--- how code shows it: byte by byte, from i on
-module _ (ws bs : List ℕ) (i : ℕ) where
-  pub begins_all : length ws ≤ i → begins (drop i ws) (drop i bs) ≡ true
-  unfolding begins
-  begins_all h = rw (drop_of_length-le ws h)
-
-  pub begins_short : i < length ws → length bs ≤ i → begins (drop i ws) (drop i bs) ≡ false
-  unfolding begins
-  begins_short h k = rw (drop-cons ws i 0 h, drop_of_length-le bs k)
-
-  pub begins_other : i < length ws → i < length bs → (get_or bs i 0 ≡ get_or ws i 0 → ⊥) → begins (drop i ws) (drop i bs) ≡ false
-  unfolding begins
-  begins_other h k n = rw (drop-cons ws i 0 h, drop-cons bs i 0 k, ne_eqb _ _ n)
-
-  pub begins_same : i < length ws → i < length bs → get_or bs i 0 ≡ get_or ws i 0 →
-      begins (drop i ws) (drop i bs) ≡ begins (drop (i + 1) ws) (drop (i + 1) bs)
-  unfolding begins
-  begins_same h k e = rw (drop-cons ws i 0 h, drop-cons bs i 0 k, eq-eqb _ _ e, add-one)
+-- what a slice's `starts_with` says of bytes
+pub starts : (ws bs : List ℕ) → starts_with eqb bs ws ≡ begins ws bs
+unfolding begins
+starts [] bs = refl
+starts (w ∷ ws) [] = refl
+starts (w ∷ ws) (b ∷ bs) = let same : eqb w b ≡ eqb b w = grind (arith, nat_tests) in rw (same, starts ws bs)
 
 -- such bytes are the word and what is behind it
 pub begins_with : (ws bs : List ℕ) → begins ws bs ≡ true → bs ≡ ws ++ drop (length ws) bs

@@ -5,11 +5,18 @@ use mathlib.Core.List.{List, [], ◌∷◌, ◌++◌}
 use Prim.Native.Nat.{ℕ, ◌≤◌, ◌<◌}
 use lib.Dec.{ltb}
 use borrow.Author.Tests.{lt-ltb, le-ltb, ltb-false}
+use native.Mathlib.Omega.{arith}
+use lib.ListN.{length, get_or}
+use Rattle.std.specs.Prelude.{Some, None, nat_lt}
+use Rattle.std.specs.List.{position, position_or_len}
+use Rattle.std.proofs.lemmas.List.Quantifiers.{position-Some}
+use Rattle.std.proofs.lemmas.List.Sums.{fails_before_first}
 use Rattle.ground.specs.Least.{least}
 use Rattle.ground.specs.Judging.{Cause, when, at_row, first, outside, and_then}
+use Rattle.ground.proofs.Minimum.{least_at}
 use Rattle.ground.proofs.Bools.{never, and_parts, or_none}
-use Rattle.ground.specs.declared.Judged.{Judged}
-use Rattle.ground.specs.declared.Judged.TheVariants.{Fine, Fault}
+use Rattle.ground.specs.Judging.{Judged}
+use Rattle.ground.specs.Judging.{Fine, Fault}
 
 -- how code shows it, line by line: this one applies; this one does not, and the rest says r
 pub hit : (cs : List Cause) (b : Bool) (n p : ℕ) → b ≡ true → Fault n p ≡ first (when b n p ∷ cs)
@@ -28,6 +35,25 @@ pub pass_row : (cs : List Cause) {r : Judged} (q : ℕ → Bool) (n number k : �
     → r ≡ first (at_row q n number ∷ cs)
 unfolding first
 pass_row cs q n number k e h f = rw (← e, le-ltb k n h) f
+
+-- the same where the code looked for the row by an iterator's `position`
+pub hit_found : (cs : List Cause) (p : ℕ → Bool) (xs : List ℕ) (number k : ℕ) → position p xs ≡ Some k
+    → Fault number k ≡ first (at_row (λ i. p (get_or xs i 0)) (length xs) number ∷ cs)
+hit_found cs p xs number k e =
+    let f = position-Some p xs k 0 e in
+    hit_row cs _ _ number k (sym (least_at (λ i. p (get_or xs i 0)) (length xs) k (omega (arith, f.0)) f.2 (λ _. f.1))) f.0
+
+pub pass_found : (cs : List Cause) {r : Judged} (p : ℕ → Bool) (xs : List ℕ) (number : ℕ) → position p xs ≡ None → r ≡ first cs
+    → r ≡ first (at_row (λ i. p (get_or xs i 0)) (length xs) number ∷ cs)
+pass_found cs p xs number e f =
+    let none : length xs ≤ position_or_len p xs = at (nat_lt (position_or_len p xs) (length xs)) refl e in
+    pass_row cs _ _ number (length xs)
+    (sym (least_at (λ i. p (get_or xs i 0)) (length xs) (length xs) (omega arith) (λ k l. fails_before_first p xs k 0 (omega arith)) (λ l. absurd (omega arith))))
+    (omega arith) f
+  where
+    at : (b : Bool) → nat_lt (position_or_len p xs) (length xs) ≡ b → cond b (Some (position_or_len p xs)) None ≡ None → length xs ≤ position_or_len p xs
+    at true s h = never (cc)
+    at false s h = ltb-false _ _ s
 
 -- and what it means that none applies
 pub passed : (b : Bool) (n p : ℕ) (cs : List Cause) → first (when b n p ∷ cs) ≡ Fine → (b ≡ false) × (first cs ≡ Fine)

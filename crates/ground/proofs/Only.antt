@@ -6,8 +6,8 @@ use Prim.Native.Nat.{ℕ}
 use Rattle.ground.specs.Judging.{Cause, when, first, and_then}
 use Rattle.ground.proofs.Bools.{never}
 use Rattle.ground.proofs.Faults.{or_else, first_append}
-use Rattle.ground.specs.declared.Judged.{Judged}
-use Rattle.ground.specs.declared.Judged.TheVariants.{Fine, Fault}
+use Rattle.ground.specs.Judging.{Judged}
+use Rattle.ground.specs.Judging.{Fine, Fault}
 
 -- the first fault of the list, if there is one, has P
 pub record Only (P : ℕ → ℕ → Type 0) (cs : List Cause) : Type 0 where

@@ -1,8 +1,11 @@
 -- Judging: faults in the order in which they are judged, each with its number and its place.
 use Rattle.std.specs.Prelude.{Bool, cond, ◌||◌, List, [], ◌∷◌, ◌++◌, ℕ, ltb}
 use Rattle.ground.specs.Least.{least, some}
-use Rattle.ground.specs.declared.Judged.{Judged}
-use Rattle.ground.specs.declared.Judged.TheVariants.{Fine, Fault}
+
+-- what judging says: nothing is wrong, or the first fault, by its number and its place
+pub data Judged : Type 0 where
+  Fine : Judged
+  Fault : ℕ → ℕ → Judged
 
 -- a line of the table of refusals: whether it applies, its number and its place
 pub record Cause : Type 0 where

@@ -2,7 +2,7 @@
 use Rattle.std.specs.Prelude.{◌≡◌, List, ◌++◌, ℕ, ◌+◌, ◌*◌, length, take, drop}
 
 -- xs stands in front: "A lent buffer longer than needed keeps its tail."
-abbrev pub on_front : List ℕ → List ℕ → List ℕ
+abbrev pub on_front : {A : Type 0} → List A → List A → List A
 on_front xs old = xs ++ drop (length xs) old
 
 -- the w places that the i-th of many has in a list, from 0: those from w * i on

@@ -5,4 +5,5 @@ pub mod Series
 pub mod Words
 pub mod Lent
 pub mod Judging
+pub mod Refusals
 pub mod Protocol

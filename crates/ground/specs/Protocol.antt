@@ -1,8 +1,8 @@
 -- How every call answers: what is wrong is judged first; the first fault is the answer, and then lent memory is kept; else the call
 -- does its work.
 use Rattle.std.specs.Prelude.{ℕ}
-use Rattle.ground.specs.declared.Judged.{Judged}
-use Rattle.ground.specs.declared.Judged.TheVariants.{Fine, Fault}
+use Rattle.ground.specs.Judging.{Judged}
+use Rattle.ground.specs.Judging.{Fine, Fault}
 
 -- an answer, and what it leaves in lent memory
 pub record Outcome (A L : Type 0) : Type 0 where

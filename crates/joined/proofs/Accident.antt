@@ -10,8 +10,8 @@ use lib.Seq.{take_all, take-append-add}
 use borrow.Author.Tests.{leb-true, le-ltb, ne_eqb}
 use Rattle.ground.specs.Judging.{first, and_then}
 use Rattle.ground.specs.Protocol.{Outcome, gives, keeping, unless}
-use Rattle.ground.specs.declared.Judged.{Judged}
-use Rattle.ground.specs.declared.Judged.TheVariants.{Fine, Fault}
+use Rattle.ground.specs.Judging.{Judged}
+use Rattle.ground.specs.Judging.{Fine, Fault}
 use Rattle.ground.proofs.Answers.{Told, stopped, through, told}
 use Rattle.ground.proofs.Faults.{pass, front_hit, front_pass, all_numbers, number_of}
 use Rattle.ground.proofs.Bools.{never}

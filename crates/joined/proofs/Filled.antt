@@ -10,8 +10,8 @@ use lib.Seq.{length-take-le, drop-length}
 use Rattle.ground.specs.Judging.{first}
 use Rattle.ground.specs.Lent.{on_front, block}
 use Rattle.ground.specs.Protocol.{Outcome, gives}
-use Rattle.ground.specs.declared.Judged.{Judged}
-use Rattle.ground.specs.declared.Judged.TheVariants.{Fine, Fault}
+use Rattle.ground.specs.Judging.{Judged}
+use Rattle.ground.specs.Judging.{Fine, Fault}
 use Rattle.ground.proofs.Blocks.{Series, blocks, behind, long}
 use Rattle.ground.proofs.Bools.{or_none, never}
 use Rattle.link.specs.Limits.{max_rows}

@@ -8,7 +8,7 @@ use native.Mathlib.Omega.{arith}
 use lib.ListN.{length, get_or, take, drop, length-append, length-drop}
 use lib.Seq.{take-append-add, drop-append_seam, drop-drop, drop-cons, drop-length}
 use borrow.Author.Tests.{lt-leb}
-use Rattle.ground.specs.declared.Judged.TheVariants.{Fine}
+use Rattle.ground.specs.Judging.{Fine}
 use Rattle.ground.proofs.Bools.{clash, lt_or_ge}
 use Rattle.ground.proofs.Minimum.{least_is}
 use Rattle.link.specs.Range.{GoodTable}

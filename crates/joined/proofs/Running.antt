@@ -8,8 +8,8 @@ use lib.Dec.{leb}
 use lib.ListN.{length, length-append, length-drop}
 use borrow.Author.Tests.{le-leb, lt-leb}
 use Rattle.ground.specs.Protocol.{Outcome, gives, unless}
-use Rattle.ground.specs.declared.Judged.{Judged}
-use Rattle.ground.specs.declared.Judged.TheVariants.{Fine, Fault}
+use Rattle.ground.specs.Judging.{Judged}
+use Rattle.ground.specs.Judging.{Fine, Fault}
 use Rattle.ground.proofs.Answers.{no_second as one_said}
 use Rattle.ground.proofs.Minimum.{least_is, least_at}
 use Rattle.joined.specs.Limits.{max_texts, too_many_texts}

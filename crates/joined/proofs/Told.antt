@@ -7,7 +7,7 @@ use lib.ListN.{length, take, drop, length-append}
 use lib.Seq.{take_at}
 use Rattle.ground.specs.Judging.{first}
 use Rattle.ground.specs.Protocol.{Outcome, gives, keeping}
-use Rattle.ground.specs.declared.Judged.TheVariants.{Fine, Fault}
+use Rattle.ground.specs.Judging.{Fine, Fault}
 use Rattle.ground.proofs.Answers.{Told, stopped, through, told, let_through}
 use Rattle.ground.proofs.Bools.{never}
 use Rattle.link.specs.Limits.{max_rows}

@@ -11,8 +11,8 @@ use lib.ListN.{length, take, drop, take-append-drop, length-drop, length-take}
 use borrow.Rule.Slice.PartMut.{put_mid, same_len_mid}
 use borrow.Author.Tests.{le-leb, lt-leb}
 use Rattle.ground.specs.Protocol.{Outcome, gives, keeping}
-use Rattle.ground.specs.declared.Judged.{Judged}
-use Rattle.ground.specs.declared.Judged.TheVariants.{Fine, Fault}
+use Rattle.ground.specs.Judging.{Judged}
+use Rattle.ground.specs.Judging.{Fine, Fault}
 use Rattle.ground.proofs.Answers.{Told, stopped, through, told, let_through}
 use Rattle.ground.proofs.Bools.{lt_or_ge, never}
 use Rattle.ground.proofs.Filling.{tail_part}

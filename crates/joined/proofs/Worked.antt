@@ -6,7 +6,7 @@ use native.Mathlib.Omega.{arith}
 use lib.ListN.{length, get_or, replicate, length-replicate}
 use Rattle.ground.specs.Judging.{first}
 use Rattle.ground.specs.Protocol.{gives}
-use Rattle.ground.specs.declared.Judged.TheVariants.{Fault}
+use Rattle.ground.specs.Judging.{Fault}
 use Rattle.text.proofs.Worked.{front, back, text, worked}
 use Rattle.search.specs.declared.Answer.TheVariants.{Plan}
 use Rattle.search.proofs.Worked.{answers}

@@ -3,8 +3,8 @@ use Rattle.std.specs.Prelude.{Bool, true, false, cond, ◌&&◌, ◌||◌, List,
 use Rattle.ground.specs.Judging.{first}
 use Rattle.ground.specs.Least.{least}
 use Rattle.ground.specs.Protocol.{unless}
-use Rattle.ground.specs.declared.Judged.{Judged}
-use Rattle.ground.specs.declared.Judged.TheVariants.{Fine, Fault}
+use Rattle.ground.specs.Judging.{Judged}
+use Rattle.ground.specs.Judging.{Fine, Fault}
 use Rattle.text.specs.Limits.{max_text, long_text, cut_line}
 use Rattle.text.specs.Faults.{text_faults, end_of}
 use Rattle.joined.specs.Limits.{max_texts, too_many_texts}

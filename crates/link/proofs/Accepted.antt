@@ -8,7 +8,7 @@ use lib.ListN.{length, get_or}
 use borrow.Author.Tests.{ltb-true, ltb-false, leb-false, eqb-true, not-false, le-ltb, lt-leb, eq-eqb}
 use Rattle.ground.specs.Judging.{first, and_then, outside}
 use Rattle.ground.specs.Least.{some}
-use Rattle.ground.specs.declared.Judged.TheVariants.{Fine, Fault}
+use Rattle.ground.specs.Judging.{Fine, Fault}
 use Rattle.ground.proofs.Minimum.{none_has, some_none}
 use Rattle.ground.proofs.Faults.{fine, pass, passed, front_pass, front_fine, inside, within, all_numbers, number_of}
 use Rattle.link.specs.Limits.{max_period, max_delay, max_rows, bad_period, bad_size, bad_delay, bad_rows, bad_length, bad_offset, no_offset}

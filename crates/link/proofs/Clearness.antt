@@ -11,7 +11,7 @@ use Rattle.link.specs.Slots.{Uses}
 use Rattle.link.specs.Rows.{Crossing, one, two, start, hits, either, free, ClearIn, Clear}
 use Rattle.ground.proofs.Bools.{clash, is_false}
 use Rattle.ground.proofs.Minimum.{none_has, some_none, least_cong}
-use Rattle.link.proofs.Circle.{meets_true, meets_slot}
+use Rattle.link.proofs.OnCircle.{meets_true, meets_slot}
 use Rattle.link.proofs.Meeting.{neither, none_hit}
 
 module _ {p l : ℕ} {ds os : List ℕ} where

@@ -12,7 +12,7 @@ use Rattle.ground.specs.Count.{count}
 use Rattle.ground.proofs.Bools.{clash, and_parts, lt_or_ge}
 use Rattle.ground.proofs.Sharing.{count_upto, count_values}
 use Rattle.link.specs.Slots.{after, meets}
-use Rattle.link.proofs.Circle.{Apart, Turned, turned, apart_of, apart_met, after_low}
+use Rattle.link.proofs.OnCircle.{Apart, Turned, turned, apart_of, apart_met, after_low}
 use Rattle.link.proofs.Turning.{meets_moved, apart_moved, after_on}
 
 -- the turn that brings the start a to b

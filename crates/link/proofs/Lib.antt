@@ -1,5 +1,6 @@
 -- Laws that belong to no one function, for this crate and those above it.
-pub mod Circle
+pub mod Columns
+pub mod OnCircle
 pub mod Meeting
 pub mod Clearness
 pub mod Accepted

@@ -13,10 +13,10 @@ use Rattle.ground.specs.Least.{least, some}
 use Rattle.link.specs.Slots.{after}
 use Rattle.link.specs.Rows.{Crossing, one, two, numbered, second, start_at, start, hits, either, free, first_hit, met_at, near}
 use Rattle.link.specs.Rows.{first_near, is_nobody}
-use Rattle.link.specs.declared.Met.{Met}
-use Rattle.link.specs.declared.Met.TheVariants.{Nobody, Row}
+use Rattle.link.specs.Rows.{Met}
+use Rattle.link.specs.Rows.{Nobody, Row}
 use Rattle.ground.proofs.Bools.{clash, never, or_none, true_or_false}
-use Rattle.link.proofs.Circle.{meets_apart}
+use Rattle.link.proofs.OnCircle.{meets_apart}
 use Rattle.ground.proofs.Minimum.{least_at, least_is, least_cong, some_at, some_none, some_has}
 
 module _ (h : Crossing → ℕ → Bool) where

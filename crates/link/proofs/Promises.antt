@@ -6,7 +6,7 @@ use Prim.Native.Nat.{ℕ, ◌≤◌, ◌<◌}
 use native.Mathlib.Omega.{arith}
 use Rattle.link.specs.Slots.{meets, differ}
 use Rattle.link.specs.Rows.{Clear}
-use Rattle.link.proofs.Circle.{meets_apart, differ_apart}
+use Rattle.link.proofs.OnCircle.{meets_apart, differ_apart}
 use Rattle.link.proofs.Clearness.{clear_both}
 
 -- "With starts a and b this is so unless (a-b) modulo P and (b-a) modulo P are both at least T."

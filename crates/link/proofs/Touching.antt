@@ -11,7 +11,7 @@ use borrow.Author.Tests.{eqb-true, eqb-false}
 use Rattle.ground.proofs.Bools.{clash, true_or_false}
 use Rattle.link.specs.Slots.{after, meets}
 use Rattle.link.specs.Rows.{Crossing, one, two, second, start_at}
-use Rattle.link.proofs.Circle.{Apart, Turned, turned, apart_met}
+use Rattle.link.proofs.OnCircle.{Apart, Turned, turned, apart_met}
 
 -- both starts one slot back
 pub apart_both : (p l a b a' b' : ℕ) → 0 < l → a' < p → b' < p → Apart p l a b → Turned p (suc a') a → Turned p (suc b') b

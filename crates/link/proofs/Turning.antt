@@ -17,7 +17,7 @@ use Rattle.link.specs.Rows.{Crossing, one, two, start_at, start, moved_on, hits,
 use Rattle.link.specs.Range.{GoodPlan}
 use Rattle.link.specs.declared.Link.{Link}
 use Rattle.link.proofs.Meeting.{second_after}
-use Rattle.link.proofs.Circle.{Apart, apart_of, apart_met, after_low, uses_true, uses_slot, meets_true, meets_slot}
+use Rattle.link.proofs.OnCircle.{Apart, apart_of, apart_met, after_low, uses_true, uses_slot, meets_true, meets_slot}
 
 module _ (p r : ℕ) (some : 0 < p) where
   -- r slots on from a

@@ -2,5 +2,6 @@
 pub mod Limits
 pub mod Slots
 pub mod Rows
+pub mod Starts
 pub mod Refusal
 pub mod Range

@@ -3,8 +3,6 @@ use Rattle.std.specs.Prelude.{Bool, true, false, not, cond, ◌||◌, List, map,
 use Rattle.ground.specs.Least.{least, some}
 use Rattle.link.specs.Slots.{after, meets, apartb, Meet}
 use Rattle.link.specs.declared.Link.{Link}
-use Rattle.link.specs.declared.Met.{Met}
-use Rattle.link.specs.declared.Met.TheVariants.{Nobody, Row}
 
 -- the least distance of two starts
 abbrev pub span_of : Link → ℕ
@@ -58,6 +56,11 @@ free p l ds os n d a = not (some (either (hits p l ds os d a)) n)
 -- row j of a plan meets an earlier row
 unfoldable pub blocked : ℕ → ℕ → List ℕ → List ℕ → ℕ → Bool
 blocked p l ds os j = not (free p l ds os j (get_or ds j 0) (get_or os j 0))
+
+-- whom a row meets: nobody, or a row, and the crossing by its number
+pub data Met : Type 0 where
+  Nobody : Met
+  Row : ℕ → ℕ → Met
 
 -- the least row below n that is hit, and the crossing, 1 where both
 unfoldable pub first_hit : (Crossing → ℕ → Bool) → ℕ → Met

@@ -8,8 +8,8 @@ use lib.Dec.{eqb}
 use lib.ListN.{length}
 use borrow.Author.Tests.{not-true, not-false, eqb-true, eqb-false, eq-eqb, ne_eqb}
 use Rattle.ground.specs.Judging.{first, and_then}
-use Rattle.ground.specs.declared.Judged.{Judged}
-use Rattle.ground.specs.declared.Judged.TheVariants.{Fine, Fault}
+use Rattle.ground.specs.Judging.{Judged}
+use Rattle.ground.specs.Judging.{Fine, Fault}
 use Rattle.ground.proofs.Faults.{fine, hit, pass, passed, front_hit, front_pass, front_fine, all_numbers, number_of}
 use Rattle.ground.proofs.Bools.{never}
 use Rattle.link.specs.Limits.{no_offset}

@@ -12,7 +12,7 @@ use borrow.Author.Tests.{eqb-true, eqb-false, not-false}
 use Rattle.ground.proofs.Bools.{and_both, and_parts, same_test, true_or_false}
 use Rattle.link.specs.Rows.{Crossing, one, two, second, start_at, near}
 use Rattle.link.specs.Slots.{meets, apartb}
-use Rattle.link.proofs.Circle.{meets_apart}
+use Rattle.link.proofs.OnCircle.{meets_apart}
 use Rattle.link.proofs.Meeting.{start_low}
 use Rattle.quick.specs.Ways.{open_to}
 use Rattle.oneslot.specs.Moves.{serves}

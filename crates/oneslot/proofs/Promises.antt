@@ -9,7 +9,7 @@ use lib.Seq.{take-length}
 use Rattle.ground.specs.Judging.{first}
 use Rattle.ground.specs.Lent.{on_front}
 use Rattle.ground.specs.Protocol.{Outcome, gives, keeping}
-use Rattle.ground.specs.declared.Judged.TheVariants.{Fault}
+use Rattle.ground.specs.Judging.{Fault}
 use Rattle.ground.proofs.Answers.{Told, stopped, through, told, refused, goes_on, no_second_outcome}
 use Rattle.ground.proofs.Bools.{never}
 use Rattle.link.specs.Limits.{no_offset}

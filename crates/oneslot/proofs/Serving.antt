@@ -15,7 +15,7 @@ use Rattle.ground.proofs.Bools.{clash, is_false, lt_or_ge, true_or_false}
 use Rattle.ground.proofs.Minimum.{some_none}
 use Rattle.link.specs.Rows.{Crossing, one, two, start_at, start, hits, free}
 use Rattle.link.specs.Slots.{meets}
-use Rattle.link.proofs.Circle.{meets_true, meets_slot}
+use Rattle.link.proofs.OnCircle.{meets_true, meets_slot}
 use Rattle.link.proofs.Clearness.{free_meets_none}
 use Rattle.link.proofs.Meeting.{neither}
 use Rattle.oneslot.specs.Moves.{moved, serves}

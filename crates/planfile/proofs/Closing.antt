@@ -10,7 +10,7 @@ use Rattle.link.specs.declared.Link.{Link}
 use Rattle.ground.specs.Judging.{first}
 use Rattle.ground.specs.Protocol.{unless}
 use Rattle.checker.specs.Judging.{clear_faults}
-use Rattle.ground.specs.declared.Judged.TheVariants.{Fine, Fault}
+use Rattle.ground.specs.Judging.{Fine, Fault}
 use Rattle.planfile.specs.Causes.{left_over}
 use Rattle.planfile.specs.FileMeaning.{Step, got, stopped, Rows, plan, refused, closing}
 use Rattle.planfile.specs.Answer.{refuses, delivers, delivered, rowsed}

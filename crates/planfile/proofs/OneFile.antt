@@ -12,7 +12,7 @@ use Rattle.link.specs.Range.{GoodPlan}
 use Rattle.link.specs.declared.Link.{Link}
 use Rattle.ground.specs.Judging.{first}
 use Rattle.checker.specs.Judging.{clear_faults}
-use Rattle.ground.specs.declared.Judged.TheVariants.{Fine}
+use Rattle.ground.specs.Judging.{Fine}
 use Rattle.ground.proofs.Answers.{let_through}
 use Rattle.ground.proofs.Bools.{never, lt_or_ge}
 use Rattle.planfile.specs.Bytes.{Bytes}

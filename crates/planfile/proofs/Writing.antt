@@ -14,7 +14,7 @@ use Rattle.ground.specs.Judging.{first}
 use Rattle.checker.specs.Judging.{clear_faults}
 use Rattle.ground.specs.Lent.{on_front, Adds}
 use Rattle.ground.specs.Protocol.{gives, keeping}
-use Rattle.ground.specs.declared.Judged.TheVariants.{Fine, Fault}
+use Rattle.ground.specs.Judging.{Fine, Fault}
 use Rattle.ground.proofs.Adding.{same_length, and_then, nothing_yet}
 use Rattle.ground.proofs.Answers.{refused, goes_on}
 use Rattle.ground.proofs.Faults.{fine as no_fault, hit, pass, front_hit, front_pass}

@@ -6,7 +6,7 @@ use native.Mathlib.Omega.{arith}
 use native.Mathlib.Nat.{suc-mul, mul-le-mul_right, mod-add-mod, add_right_comm}
 use native.Mathlib.Numerals.{add-one}
 use Rattle.link.specs.Rows.{second, first_near, is_nobody}
-use Rattle.link.specs.declared.Met.{Met}
+use Rattle.link.specs.Rows.{Met}
 use Rattle.quick.specs.Ways.{Ways, open_to}
 
 pub next_low : (c count step : ℕ) → c < count → c * step + step ≤ count * step

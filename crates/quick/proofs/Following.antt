@@ -12,7 +12,7 @@ use Rattle.ground.specs.Least.{least, some}
 use Rattle.ground.proofs.Bools.{clash, lt_or_ge}
 use Rattle.ground.proofs.Minimum.{some_has}
 use Rattle.link.specs.Rows.{Crossing, one, start_at, start, hits, either, free}
-use Rattle.link.proofs.Circle.{apart_of}
+use Rattle.link.proofs.OnCircle.{apart_of}
 use Rattle.link.proofs.Clearness.{free_meets_none}
 use Rattle.link.proofs.Meeting.{start_low, one_hit}
 use Rattle.link.proofs.Touching.{start_back, right_after}

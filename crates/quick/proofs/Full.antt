@@ -18,7 +18,7 @@ use Rattle.link.specs.Limits.{max_period, max_rows, no_offset}
 use Rattle.link.specs.Range.{GoodTable}
 use Rattle.link.specs.Rows.{one, two, second, start, hits, either, free}
 use Rattle.link.specs.Slots.{gap}
-use Rattle.link.proofs.Circle.{Apart, apart_met, near_met}
+use Rattle.link.proofs.OnCircle.{Apart, apart_met, near_met}
 use Rattle.link.proofs.Meeting.{neither, hit_either}
 use Rattle.quick.specs.Answer.{said, quick}
 use Rattle.quick.specs.Loads.{full_delays}

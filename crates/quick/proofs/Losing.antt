@@ -16,7 +16,7 @@ use Rattle.ground.proofs.Counting.{count_run, count_low, or_of}
 use Rattle.ground.proofs.Minimum.{least_is}
 use Rattle.ground.proofs.Sharing.{count_upto, count_either, count_once, shares, least_has}
 use Rattle.link.specs.Rows.{Crossing, one, two, start_at, start, hits, either, free}
-use Rattle.link.proofs.Circle.{Apart, apart_met}
+use Rattle.link.proofs.OnCircle.{Apart, apart_met}
 use Rattle.link.proofs.Crowding.{met_most, met_behind}
 use Rattle.link.proofs.Meeting.{second_after, start_low, none_hit}
 use Rattle.link.proofs.Turning.{apart_moved}

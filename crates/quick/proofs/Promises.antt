@@ -10,7 +10,7 @@ use Rattle.ground.specs.Judging.{first}
 use Rattle.ground.specs.Least.{least}
 use Rattle.ground.specs.Lent.{on_front}
 use Rattle.ground.specs.Protocol.{Outcome, gives, keeping}
-use Rattle.ground.specs.declared.Judged.TheVariants.{Fine}
+use Rattle.ground.specs.Judging.{Fine}
 use Rattle.ground.proofs.Answers.{Told, stopped, through, told, let_through, goes_on, no_second_outcome}
 use Rattle.ground.proofs.Bools.{clash, never}
 use Rattle.link.specs.Limits.{no_offset}

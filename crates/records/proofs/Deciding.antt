@@ -13,8 +13,8 @@ use Rattle.ground.specs.Judging.{first, outside}
 use Rattle.link.specs.Refusal.{link_faults, row_faults, table_faults, plan_faults}
 use Rattle.link.specs.Rows.{span_of}
 use Rattle.link.specs.declared.Link.{Link}
-use Rattle.ground.specs.declared.Judged.TheVariants.{Fine, Fault}
-use Rattle.link.specs.declared.Met.TheVariants.{Nobody, Row}
+use Rattle.ground.specs.Judging.{Fine, Fault}
+use Rattle.link.specs.Rows.{Nobody, Row}
 use Rattle.link.proofs.Accepted.{good_plan, in_range}
 use Rattle.ground.proofs.Faults.{hit, pass, hit_row, pass_row, front_hit, front_pass, fine, below, above, inside}
 use Rattle.checker.specs.Answer.{Said, clearly, colliding, refusing, answer}

@@ -11,7 +11,7 @@ use Rattle.ground.specs.Judging.{Cause, at_row, first, and_then}
 use Rattle.link.specs.Refusal.{link_faults, row_faults, table_faults, offset_faults, plan_faults}
 use Rattle.link.specs.Rows.{span_of}
 use Rattle.link.specs.declared.Link.{Link}
-use Rattle.ground.specs.declared.Judged.TheVariants.{Fault}
+use Rattle.ground.specs.Judging.{Fault}
 use Rattle.ground.proofs.Bools.{clash}
 use Rattle.ground.proofs.Faults.{pass, first_append, or_else, all_numbers, number_of}
 use Rattle.checker.specs.Answer.{refusing, answer}

@@ -11,8 +11,8 @@ use borrow.Author.Count.{below_none}
 use Rattle.link.specs.Limits.{max_rows}
 use Rattle.link.specs.Range.{InRange}
 use Rattle.link.specs.Rows.{second, start, first_near}
-use Rattle.link.specs.declared.Met.{Met}
-use Rattle.link.specs.declared.Met.TheVariants.{Nobody, Row}
+use Rattle.link.specs.Rows.{Met}
+use Rattle.link.specs.Rows.{Nobody, Row}
 use Rattle.ground.proofs.Bools.{never}
 use Rattle.ground.proofs.Filling.{stored, same_take}
 use Rattle.checker.proofs.Naming.{Walked, stops, goes_on}

@@ -5,7 +5,7 @@ use Rattle.link.specs.Limits.{max_delay, max_rows}
 use Rattle.link.specs.Range.{InRange}
 use Rattle.link.specs.Rows.{one, two, span_of, start, blocked}
 use Rattle.link.specs.declared.Link.{Link}
-use Rattle.link.specs.declared.Met.TheVariants.{Nobody, Row}
+use Rattle.link.specs.Rows.{Nobody, Row}
 use Rattle.checker.specs.Answer.{colliding, named}
 use Rattle.records.specs.Columns.{delays_of, offsets_of}
 use Rattle.records.specs.declared.Record.{Record}

@@ -14,7 +14,7 @@ use Rattle.ground.proofs.Bools.{clash, lt_or_ge, true_or_false}
 use Rattle.ground.proofs.Counting.{count_cong, count_places}
 use Rattle.ground.proofs.Remainders.{same_on, same_back}
 use Rattle.link.specs.Slots.{after, Uses}
-use Rattle.link.proofs.Circle.{after_low}
+use Rattle.link.proofs.OnCircle.{after_low}
 use Rattle.report.specs.Runs.{around, run_begins, width}
 use Rattle.report.specs.Steps.{Placed, at, free_at, NextStart}
 use Rattle.report.proofs.Covering.{used_by, free_of_all, used_some}

@@ -11,7 +11,7 @@ use Rattle.ground.specs.Least.{least}
 use Rattle.link.specs.Slots.{uses, Uses}
 use Rattle.ground.proofs.Bools.{is_false}
 use Rattle.ground.proofs.Minimum.{some_at, some_none, some_has}
-use Rattle.link.proofs.Circle.{Turned, turned, uses_true, uses_slot}
+use Rattle.link.proofs.OnCircle.{Turned, turned, uses_true, uses_slot}
 use Rattle.report.specs.Free.{used_of, free_of}
 
 abbrev pub Covers : ℕ → ℕ → ℕ → ℕ → Type 0

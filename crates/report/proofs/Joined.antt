@@ -7,7 +7,7 @@ use native.Mathlib.Omega.{arith}
 use native.Mathlib.Nat.{mod_self, mod-eq_of_lt, add-mod_right}
 use Rattle.ground.specs.Count.{count}
 use Rattle.ground.proofs.Counting.{count_front, count_cong}
-use Rattle.link.proofs.Circle.{Turned, turned}
+use Rattle.link.proofs.OnCircle.{Turned, turned}
 use Rattle.report.specs.Runs.{around, run_begins, width, run_begins_on_line, Run, Within, Longest}
 use Rattle.report.proofs.Widths.{around_again, around_low, width_at, width_some}
 use Rattle.report.proofs.Stretches.{short}

@@ -14,7 +14,7 @@ use Rattle.ground.specs.Count.{count}
 use Rattle.ground.proofs.Bools.{lt_or_ge}
 use Rattle.ground.proofs.Counting.{count_in_lem, count_out, count_low}
 use Rattle.link.specs.Rows.{second}
-use Rattle.link.proofs.Circle.{uses_slot}
+use Rattle.link.proofs.OnCircle.{uses_slot}
 use Rattle.link.proofs.Meeting.{second_after}
 use Rattle.report.specs.Runs.{width, Run, runs, widest_of}
 use Rattle.report.specs.Free.{stretch_of}

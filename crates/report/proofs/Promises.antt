@@ -14,7 +14,7 @@ use Rattle.link.specs.Rows.{Crossing, one, two, span_of, moved_on, Clear}
 use Rattle.link.specs.declared.Link.{Link}
 use Rattle.link.proofs.Accepted.{in_range}
 use Rattle.ground.specs.Judging.{first}
-use Rattle.ground.specs.declared.Judged.TheVariants.{Fine}
+use Rattle.ground.specs.Judging.{Fine}
 use Rattle.ground.proofs.Bools.{never}
 use Rattle.ground.proofs.Answers.{refused, goes_on, let_through}
 use Rattle.ground.proofs.Answers as answers

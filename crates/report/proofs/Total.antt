@@ -14,7 +14,7 @@ use Rattle.link.specs.Range.{InRange}
 use Rattle.link.specs.Rows.{Crossing, start, Clear}
 use Rattle.link.specs.Slots.{uses}
 use Rattle.ground.proofs.Bools.{is_false, lt_or_ge}
-use Rattle.link.proofs.Circle.{uses_true, uses_slot}
+use Rattle.link.proofs.OnCircle.{uses_true, uses_slot}
 use Rattle.link.proofs.Meeting.{start_low}
 use Rattle.ground.proofs.Minimum.{some_none, some_has, some_more}
 use Rattle.ground.specs.Count.{count}

@@ -6,7 +6,7 @@ use lib.Dec.{ltb}
 use lib.ListN.{length}
 use borrow.Author.Tests.{ltb-true, ltb-false, le-ltb}
 use Rattle.ground.specs.Judging.{first, and_then}
-use Rattle.ground.specs.declared.Judged.TheVariants.{Fine, Fault}
+use Rattle.ground.specs.Judging.{Fine, Fault}
 use Rattle.ground.proofs.Faults.{fine, pass, passed, front_pass, front_fine, all_numbers, number_of}
 use Rattle.link.specs.Limits.{no_offset}
 use Rattle.link.specs.Range.{GoodTable}

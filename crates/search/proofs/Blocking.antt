@@ -11,7 +11,7 @@ use borrow.Author.Tests.{lt-ltb, le-ltb, ltb-true}
 use Rattle.link.specs.Slots.{apartb, meets}
 use Rattle.ground.specs.Least.{some}
 use Rattle.link.specs.Rows.{second, start, hits, either}
-use Rattle.link.proofs.Circle.{meets_apart}
+use Rattle.link.proofs.OnCircle.{meets_apart}
 use Rattle.ground.proofs.Minimum.{least_cong}
 use Rattle.link.proofs.Meeting.{second_low}
 use Rattle.search.specs.Steps.{Step, placed, puts, in_the_way, good}

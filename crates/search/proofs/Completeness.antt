@@ -13,7 +13,7 @@ use Rattle.link.specs.Rows.{Crossing, one, two, start, start_at, hits, either}
 use Rattle.link.specs.Slots.{after}
 use Rattle.ground.proofs.Bools.{clash}
 use Rattle.ground.proofs.Series.{look}
-use Rattle.link.proofs.Circle.{Apart, Turned, apart_sym, apart_met}
+use Rattle.link.proofs.OnCircle.{Apart, Turned, apart_sym, apart_met}
 use Rattle.ground.proofs.Minimum.{some_none}
 use Rattle.link.proofs.Meeting.{start_low, neither}
 use Rattle.link.proofs.Touching.{apart_both, apart_one, start_back}

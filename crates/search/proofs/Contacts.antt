@@ -10,7 +10,7 @@ use Rattle.ground.specs.Least.{some}
 use Rattle.link.specs.Slots.{after, Meet}
 use Rattle.link.specs.Rows.{Crossing, one, two, start, start_at, hits, either}
 use Rattle.ground.proofs.Bools.{clash, is_false}
-use Rattle.link.proofs.Circle.{after_low, meets_true, meets_slot}
+use Rattle.link.proofs.OnCircle.{after_low, meets_true, meets_slot}
 use Rattle.ground.proofs.Minimum.{some_none}
 use Rattle.link.proofs.Meeting.{neither}
 use Rattle.search.specs.Steps.{Step, placed, offset_of, puts, in_the_way, good}

@@ -11,7 +11,7 @@ use borrow.Author.Tests.{not-true}
 use Rattle.ground.proofs.Counting.{count_some}
 use Rattle.link.specs.Limits.{max_rows}
 use Rattle.link.specs.Slots.{after}
-use Rattle.link.proofs.Circle.{after_low}
+use Rattle.link.proofs.OnCircle.{after_low}
 use Rattle.link.proofs.Meeting.{start_low}
 use Rattle.link.proofs.Turning.{start_on, apart_moved}
 use Rattle.search.specs.Steps.{Step, rules, placed}

@@ -11,7 +11,7 @@ use borrow.Author.Tests.{le-leb}
 use Rattle.ground.specs.Judging.{first}
 use Rattle.ground.specs.Lent.{on_front}
 use Rattle.ground.specs.Protocol.{Outcome}
-use Rattle.ground.specs.declared.Judged.TheVariants.{Fine}
+use Rattle.ground.specs.Judging.{Fine}
 use Rattle.ground.proofs.Answers.{no_second as one_said, no_second_outcome}
 use Rattle.ground.proofs.Bools.{never}
 use Rattle.link.specs.Rows.{span_of}

@@ -14,7 +14,7 @@ use Rattle.link.specs.Rows.{Crossing, start, start_at, hits, Clear}
 use Rattle.ground.proofs.Bools.{lt_or_ge}
 use Rattle.ground.proofs.Counting.{count_none}
 use Rattle.link.specs.Slots.{Meet}
-use Rattle.link.proofs.Circle.{Apart, apart_sym, apart_of, apart_slots, no_slot}
+use Rattle.link.proofs.OnCircle.{Apart, apart_sym, apart_of, apart_slots, no_slot}
 use Rattle.link.proofs.Clearness.{clear_in, clear_both}
 use Rattle.ground.proofs.Minimum.{none_has}
 use Rattle.link.proofs.Meeting.{start_low, none_hit}

@@ -11,7 +11,7 @@ use borrow.Author.Tests.{lt-ltb, le-ltb, ltb-true}
 use Rattle.ground.specs.Count.{count}
 use Rattle.ground.proofs.Counting.{count_run, count_less, count_front}
 use Rattle.link.specs.Limits.{max_rows}
-use Rattle.link.proofs.Circle.{after_low}
+use Rattle.link.proofs.OnCircle.{after_low}
 use Rattle.search.specs.Steps.{Step, placed, puts, put, is_step}
 use Rattle.search.specs.Builds.{begin}
 use Rattle.search.proofs.Offsets.{offset_low}

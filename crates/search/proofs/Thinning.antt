@@ -4,7 +4,7 @@ use mathlib.Core.List.{List, ◌∷◌}
 use Prim.Native.Nat.{ℕ, zero, suc, ◌<◌, ◌≤◌}
 use native.Mathlib.Omega.{arith}
 use lib.ListN.{length, get_or}
-use Rattle.link.proofs.Circle.{Apart}
+use Rattle.link.proofs.OnCircle.{Apart}
 use Rattle.search.specs.Answer.{Fewer, empty, keep, take_out}
 use Rattle.search.proofs.Completeness.{Plan}
 

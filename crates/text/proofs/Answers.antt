@@ -7,8 +7,8 @@ use borrow.Author.Tests.{lt-ltb, le-ltb}
 use Rattle.ground.specs.Judging.{first}
 use Rattle.ground.specs.Lent.{on_front}
 use Rattle.ground.specs.Protocol.{gives, keeping}
-use Rattle.ground.specs.declared.Judged.{Judged}
-use Rattle.ground.specs.declared.Judged.TheVariants.{Fine, Fault}
+use Rattle.ground.specs.Judging.{Judged}
+use Rattle.ground.specs.Judging.{Fine, Fault}
 use Rattle.ground.proofs.Answers.{refused, goes_on, Told, stopped, through, told, let_through}
 use Rattle.ground.proofs.Bools.{never}
 use Rattle.ground.proofs.Faults.{hit, pass, fine, front_hit, front_pass}

@@ -8,7 +8,7 @@ use lib.Dec.{leb}
 use lib.ListN.{length, take, drop, length-drop}
 use borrow.Author.Tests.{lt-ltb, le-ltb, leb-true, leb-false}
 use Rattle.ground.specs.Judging.{first}
-use Rattle.ground.specs.declared.Judged.TheVariants.{Fault}
+use Rattle.ground.specs.Judging.{Fault}
 use Rattle.ground.proofs.Answers.{refused}
 use Rattle.ground.proofs.Faults.{hit, pass}
 use Rattle.ground.proofs.Filling.{middle_part}

@@ -8,7 +8,7 @@ use lib.Dec.{leb}
 use lib.ListN.{length}
 use borrow.Author.Tests.{ltb-true, leb-true}
 use Rattle.ground.specs.Judging.{Cause, when, first}
-use Rattle.ground.specs.declared.Judged.TheVariants.{Fine}
+use Rattle.ground.specs.Judging.{Fine}
 use Rattle.ground.proofs.Bools.{and_parts}
 use Rattle.ground.proofs.Faults.{front_fine}
 use Rattle.ground.proofs.Only.{Only, only_none, only_more, only_then}

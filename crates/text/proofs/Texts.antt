@@ -9,7 +9,7 @@ use borrow.Author.Tests.{le-ltb}
 use Rattle.ground.specs.Judging.{first}
 use Rattle.ground.specs.Lent.{on_front}
 use Rattle.ground.specs.Protocol.{gives, keeping}
-use Rattle.ground.specs.declared.Judged.TheVariants.{Fine}
+use Rattle.ground.specs.Judging.{Fine}
 use Rattle.ground.proofs.Answers.{goes_on}
 use Rattle.ground.proofs.Elements.{get_or_mapped}
 use Rattle.ground.proofs.Faults.{pass, fine, front_pass, front_fine}

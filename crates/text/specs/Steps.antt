@@ -2,7 +2,7 @@
 use Rattle.std.specs.Prelude.{◌≡◌, true, false, cond, not, List, [], ◌∷◌, ℕ, suc, ◌-◌, ◌≤◌, ◌<◌, ltb, leb, length, get_or, take, drop}
 use Rattle.ground.specs.Judging.{Cause, first, when}
 use Rattle.ground.specs.Protocol.{unless}
-use Rattle.ground.specs.declared.Judged.TheVariants.{Fine}
+use Rattle.ground.specs.Judging.{Fine}
 use Rattle.link.specs.Limits.{max_delay, max_rows, bad_delay, bad_rows}
 use Rattle.text.specs.Limits.{cut_line}
 use Rattle.text.specs.Bytes.{newline}

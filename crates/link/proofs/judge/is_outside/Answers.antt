@@ -7,6 +7,6 @@ pub returns-then-x-lo : goal.returns-then-x-lo
 unfolding outside
 returns-then-x-lo c = simp (lt-ltb _ _ c.if-x-lo.true)
 
-pub returns : goal.returns
+pub returns-else-x-lo : goal.returns-else-x-lo
 unfolding outside
-returns c = simp (le-ltb _ _ c.if-x-lo.false)
+returns-else-x-lo c = simp (le-ltb _ _ c.if-x-lo.false)

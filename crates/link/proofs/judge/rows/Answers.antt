@@ -1,21 +1,24 @@
 -- Each return says which lines of the list do not apply, and which does.
+use mathlib.Core.Path.{sym}
+use mathlib.Core.List.{[]}
+use lib.Dec.{ltb}
 use native.Mathlib.Omega.{arith}
+use Rattle.link.specs.Limits.{max_delay}
 use Rattle.link.specs.Refusal.{row_faults}
-use Rattle.ground.proofs.Faults.{hit, pass, hit_row, pass_row, fine, below, above, inside}
+use Rattle.ground.proofs.Faults.{hit, pass, hit_found, pass_found, fine, below, above, inside}
 use Rattle.link.proofs.judge.rows.Goals as goal
+use Rattle.link.proofs.judge.rows.Goals.{then-n-eq0-via-then-n-eq0, then-n-eq0-via-else-n-eq0+then-n-gt-MAX_ROWS}
 
 pub returns-then-n-eq0 : goal.returns-then-n-eq0
 unfolding row_faults
-returns-then-n-eq0 c = hit _ _ _ _ (below _ _ _ (omega arith))
+returns-then-n-eq0 c = elim c.then-n-eq0.branch [
+  | then-n-eq0-via-then-n-eq0 w ↦ hit _ _ _ _ (below _ _ _ (omega arith))
+  | then-n-eq0-via-else-n-eq0+then-n-gt-MAX_ROWS w ↦ hit _ _ _ _ (above _ _ _ (omega arith)) ]
 
-pub returns-then-n-gt-MAX_ROWS : goal.returns-then-n-gt-MAX_ROWS
+pub returns-in-Some : goal.returns-in-Some
 unfolding row_faults
-returns-then-n-gt-MAX_ROWS c = hit _ _ _ _ (above _ _ _ (omega arith))
-
-pub returns-then-i-n : goal.returns-then-i-n
-unfolding row_faults
-returns-then-i-n c = pass _ _ _ _ (inside _ _ _ (omega arith) (omega arith)) (hit_row _ _ _ _ _ c.first_from-i.ensures c.if-i-n.true)
+returns-in-Some c = pass _ _ _ _ (inside _ _ _ (omega arith) (omega arith)) (hit_found [] (λ x. ltb max_delay x) c.args.delays.now _ _ (sym c.in-Some.ensures))
 
 pub returns : goal.returns
 unfolding row_faults
-returns c = pass _ _ _ _ (inside _ _ _ (omega arith) (omega arith)) (pass_row _ _ _ _ _ c.first_from-i.ensures c.if-i-n.false fine)
+returns c = pass _ _ _ _ (inside _ _ _ (omega arith) (omega arith)) (pass_found _ (λ x. ltb max_delay x) c.args.delays.now _ (sym c.in_default.ensures) fine)

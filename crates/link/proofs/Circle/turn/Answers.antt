@@ -1,8 +1,8 @@
 -- Below the period the sum stands; at or above it, one period is taken off.
 use native.Mathlib.Omega.{arith}
 use Rattle.link.specs.Rows.{second}
-use Rattle.link.proofs.Circle.{turned_low, turned_high}
-use Rattle.link.proofs.turn.Goals as goal
+use Rattle.link.proofs.OnCircle.{turned_low, turned_high}
+use Rattle.link.proofs.Circle.turn.Goals as goal
 
 pub returns-then-at-rest : goal.returns-then-at-rest
 unfolding second
