@@ -8,6 +8,7 @@ pub mod Series
 pub mod Elements
 pub mod Remainders
 pub mod Beginning
+pub mod Refusals
 pub mod Filling
 pub mod Blocks
 pub mod Adding

@@ -1,13 +1,16 @@
 -- The two crossings of a list of starts, place by place, in front, and after one more row. Assumes nothing.
 use mathlib.Core.Path.{◌≡◌, refl}
-use mathlib.Core.Bool.{Bool, not}
+use mathlib.Core.Bool.{Bool, not, cond}
 use mathlib.Core.List.{List, [], ◌∷◌, ◌++◌}
 use Prim.Native.Nat.{ℕ, zero, suc, ◌+◌, ◌≤◌, ◌<◌}
 use Rattle.std.proofs.lemmas.List.{get_or-map}
+use lib.Dec.{eqb}
 use lib.ListN.{length, length-map, get_or, set, take, drop}
 use Rattle.link.specs.Slots.{apartb}
 use Rattle.link.specs.Rows.{one, two, near}
-use Rattle.link.specs.Starts.{firsts, seconds}
+use Rattle.link.specs.Starts.{firsts, seconds, crossing_number}
+use Rattle.link.specs.declared.Crossing.{Crossing}
+use Rattle.link.specs.declared.Crossing.TheVariants.{First, Second}
 use Rattle.link.specs.declared.Start.{Start}
 
 pub firsts_length : (ss : List Start) → length (firsts ss) ≡ length ss
@@ -59,3 +62,11 @@ module _ (p l : ℕ) (ss : List Start) (a b i : ℕ) (d : Start) (x : Bool) (h :
   pub near_second : x ≡ apartb p l (get_or ss i d).second b → near p l (firsts ss) (seconds ss) a b two i ≡ not x
   unfolding near
   near_second e = rw (second_at ss i d h, e)
+
+-- the crossing with a number: no second one has the same
+abbrev pub crossing_of : ℕ → Crossing
+crossing_of n = cond (eqb n 1) First Second
+
+pub crossing_again : (c : Crossing) → crossing_of (crossing_number c) ≡ c
+crossing_again First = refl
+crossing_again Second = refl

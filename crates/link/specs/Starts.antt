@@ -15,11 +15,11 @@ unfoldable pub seconds : List Start → List ℕ
 seconds ss = map (λ (s : Start). s.second) ss
 
 -- a crossing's number
-abbrev pub numbered : Crossing → ℕ
-numbered First = 1
-numbered Second = 2
+abbrev pub crossing_number : Crossing → ℕ
+crossing_number First = 1
+crossing_number Second = 2
 
 -- the row that is met, and the crossing's number
 abbrev pub met : Option RowMet → Met
 met None = Nobody
-met (Some m) = Row m.row (numbered m.crossing)
+met (Some m) = Row m.row (crossing_number m.crossing)
