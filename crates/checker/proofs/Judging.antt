@@ -21,11 +21,11 @@ use Rattle.link.specs.declared.Link.{Link}
 use Rattle.link.proofs.Accepted.{good_plan, fine_plan}
 use Rattle.link.proofs.Clearness.{clear_rows, rows_clear}
 use Rattle.link.proofs.Turning.{good_moved, free_moved}
-use Rattle.checker.specs.Answer.{Said, said, answer}
+use Rattle.std.specs.Prelude.{Some, None, Ok, Err}
+use Rattle.link.specs.Starts.{crossing_number}
+use Rattle.checker.specs.Answer.{Said, Checked, said, found, answer}
 use Rattle.checker.specs.Judging.{clear_faults, judged_as}
 use Rattle.checker.specs.Order.{FirstCollision}
-use Rattle.checker.specs.declared.Checked.{Checked}
-use Rattle.checker.specs.declared.Checked.TheVariants.{Clear as Clearly, Collision, Refused}
 use Rattle.checker.proofs.Naming.{hit}
 use Rattle.checker.proofs.Collisions.{Naming, nobody, earliest, naming, clear_told, collision_told, refusal_told, first_collision}
 
@@ -88,16 +88,16 @@ module _ (k : Link) (ds os : List ℕ) where
 
   -- what the checker answers is judged so
   pub as_judged : (r : Checked) → said r ≡ answer k ds os → judged_as r ≡ first (clear_faults k ds os)
-  unfolding said answer clear_faults
-  as_judged Clearly e =
+  unfolding said found answer clear_faults
+  as_judged (Ok None) e =
       let w = clear_told k.period (span_of k) ds os (first (plan_faults k ds os)) (naming k.period (span_of k) ds os) e in
       all_free w.0 w.1
-  as_judged (Collision i j c) e =
-      let w = collision_told k.period (span_of k) ds os (first (plan_faults k ds os)) i j c (naming k.period (span_of k) ds os) e in
-      at_row_lem j w.0 w.1.row w.1.before (hit _ _ ds os j i c w.1.met)
-  as_judged (Refused n q) e =
-      front_hit (plan_faults k ds os) _ n q
-      (refusal_told k.period (span_of k) ds os (first (plan_faults k ds os)) n q (naming k.period (span_of k) ds os) e)
+  as_judged (Ok (Some x)) e =
+      let w = collision_told k.period (span_of k) ds os (first (plan_faults k ds os)) _ _ _ (naming k.period (span_of k) ds os) e in
+      at_row_lem x.later w.0 w.1.row w.1.before (hit _ _ ds os x.later x.earlier (crossing_number x.crossing) w.1.met)
+  as_judged (Err f) e =
+      front_hit (plan_faults k ds os) _ _ _
+      (refusal_told k.period (span_of k) ds os (first (plan_faults k ds os)) _ _ (naming k.period (span_of k) ds os) e)
 
 -- of a plan in range only the rows are left to judge
 judged_rows : (k : Link) (ds os : List ℕ) → GoodPlan k ds os

@@ -1,5 +1,5 @@
 -- How the walk over the rows shows which collision is named. Assumes nothing.
-use mathlib.Core.Path.{◌≡◌, refl, sym, ◌∙◌, ap}
+use mathlib.Core.Path.{◌≡◌, sym, ◌∙◌, ap}
 use mathlib.Core.Bool.{true, false, not}
 use mathlib.Core.List.{List}
 use Prim.Native.Nat.{ℕ, ◌+◌, ◌<◌, ◌≤◌}
@@ -39,46 +39,50 @@ module _ (p l : ℕ) (ds os : List ℕ) where
   unfolding named
   named_clear b = rw (some_none (blocked p l ds os) (length ds) b)
 
--- the rows before j meet nobody, and ss has their second starts
-pub record Walked (p l : ℕ) (ds os ss : List ℕ) (j : ℕ) : Type 0 where
-  pub row : j ≤ length ds
-  pub room : length ss ≡ max_rows
-  pub seconds : (i : ℕ) → i < j → get_or ss i 0 ≡ start p ds os two i
+-- the rows before j meet nobody, and xs and ys have their starts
+pub record Walked (p l : ℕ) (ds os xs ys : List ℕ) (j : ℕ) : Type 0 where
+  pub first_room : length xs ≡ max_rows
+  pub second_room : length ys ≡ max_rows
+  pub firsts : (i : ℕ) → i < j → get_or xs i 0 ≡ get_or os i 0
+  pub seconds : (i : ℕ) → i < j → get_or ys i 0 ≡ start p ds os two i
   pub none : (i : ℕ) → i < j → blocked p l ds os i ≡ false
 
-pub none_yet : (p l : ℕ) (ds os ss : List ℕ) → length ss ≡ max_rows → Walked p l ds os ss 0
-none_yet p l ds os ss e = record { row = omega arith; room = e; seconds = below_none _; none = below_none _ }
+pub none_yet : (p l : ℕ) (ds os xs ys : List ℕ) → length xs ≡ max_rows → length ys ≡ max_rows → Walked p l ds os xs ys 0
+none_yet p l ds os xs ys e f =
+    record { first_room = e; second_room = f; firsts = below_none _; seconds = below_none _; none = below_none _ }
 
-module _ (p l : ℕ) (ds os ss : List ℕ) (j b : ℕ) (m : Met) (r : InRange p l ds os) (w : Walked p l ds os ss j) (lt : j < length ds) where
+module _ (p l : ℕ) (ds os xs ys : List ℕ) (j a b : ℕ) (m : Met) (r : InRange p l ds os) (w : Walked p l ds os xs ys j) (lt : j < length ds) where
   in_row : (i : ℕ) → i ≤ j → i < length os
   in_row i h = omega (arith, r.as_many)
 
-  starts : Starts p l ds os j os ss
+  starts : Starts p l ds os j xs ys
   starts =
       record {
         span_high = r.span_high;
-        xs_length = omega (arith, in_row j (omega arith));
-        ys_length = omega (arith, r.rows_high, w.room);
-        firsts = λ i q. refl;
+        xs_length = omega (arith, r.rows_high, w.first_room);
+        ys_length = omega (arith, r.rows_high, w.second_room);
+        firsts = w.firsts;
         seconds = w.seconds;
         low = λ i q. r.offsets i (in_row i (omega arith));
       }
 
-  module _ (e : b ≡ second p (get_or ds j 0) (get_or os j 0)) (f : m ≡ first_near p l (take j os) (take j ss) (get_or os j 0) b) where
+  module _ (d : a ≡ get_or os j 0) (e : b ≡ second p (get_or ds j 0) (get_or os j 0))
+      (f : m ≡ first_near p l (take j xs) (take j ys) a b) where
     -- what the walk's call tells of row j
     met_by_lem : m ≡ met_by p l ds os j
     unfolding met_by
-    met_by_lem = told p l ds os j os ss starts _ _ b m (r.offsets j (in_row j (omega arith))) e f
+    met_by_lem = told p l ds os j xs ys starts _ _ b m (r.offsets j (in_row j (omega arith))) e (rw d at f)
 
     pub stops : (i c : ℕ) → m ≡ Row i c → colliding i j c ≡ named p l ds os
     stops i c g = named_at p l ds os j i c lt w.none (sym met_by_lem ∙ g)
 
-    pub goes_on : m ≡ Nobody → Walked p l ds os (set ss j b) (j + 1)
+    pub goes_on : m ≡ Nobody → Walked p l ds os (set xs j a) (set ys j b) (j + 1)
     unfolding start
     goes_on g =
         record {
-          row = omega arith;
-          room = length-set ss j b ∙ w.room;
-          seconds = stored _ ss j b (omega (arith, r.rows_high, w.room)) w.seconds e;
+          first_room = length-set xs j a ∙ w.first_room;
+          second_room = length-set ys j b ∙ w.second_room;
+          firsts = stored _ xs j a (omega (arith, r.rows_high, w.first_room)) w.firsts d;
+          seconds = stored _ ys j b (omega (arith, r.rows_high, w.second_room)) w.seconds e;
           none = below_more _ _ w.none (unblocked p l ds os j (sym met_by_lem ∙ g));
         }

@@ -1,15 +1,15 @@
 -- What the checker answers.
-use Rattle.std.specs.Prelude.{cond, List, ℕ, length, get_or}
+use Rattle.std.specs.Prelude.{cond, List, ℕ, length, get_or, Option, Some, None, Result, Ok, Err}
 use Rattle.ground.specs.Least.{least, some}
-use Rattle.link.specs.Rows.{span_of, met_at, blocked}
+use Rattle.link.specs.Rows.{span_of, met_at, blocked, Met, Nobody, Row}
 use Rattle.ground.specs.Judging.{first}
 use Rattle.ground.specs.Protocol.{unless}
 use Rattle.link.specs.Refusal.{plan_faults}
 use Rattle.link.specs.declared.Link.{Link}
-use Rattle.link.specs.Rows.{Met}
-use Rattle.link.specs.Rows.{Nobody, Row}
-use Rattle.checker.specs.declared.Checked.{Checked}
-use Rattle.checker.specs.declared.Checked.TheVariants.{Clear, Collision, Refused}
+use Rattle.link.specs.Starts.{crossing_number}
+use Rattle.ground.specs.Refusals.{number_of}
+use Rattle.ground.specs.declared.Fault.{Fault}
+use Rattle.checker.specs.declared.Collision.{Collision}
 
 -- "one of: clear; a collision, with both rows and the crossing; a refusal"
 pub data Verdict : Type 0 where
@@ -34,10 +34,17 @@ colliding i j c = record { verdict = collision; number = 0; place = 0; earlier =
 abbrev pub refusing : ℕ → ℕ → Said
 refusing n p = record { verdict = refusal; number = n; place = p; earlier = 0; later = 0; crossing = 0 }
 
+-- as the code says it: clear, or the first collision; or a refusal
+abbrev pub Checked : Type 0
+Checked = Result (Option Collision) Fault
+
+unfoldable pub found : Option Collision → Said
+found None = clearly
+found (Some x) = colliding x.earlier x.later (crossing_number x.crossing)
+
 unfoldable pub said : Checked → Said
-said Clear = clearly
-said (Collision i j c) = colliding i j c
-said (Refused n p) = refusing n p
+said (Ok x) = found x
+said (Err f) = refusing (number_of f.refusal) f.place
 
 -- the least earlier row that row j meets, and the crossing
 unfoldable pub met_by : ℕ → ℕ → List ℕ → List ℕ → ℕ → Met

@@ -3,79 +3,63 @@
 
 ghost use Rattle.std.specs.Prelude.{◌≡◌};
 ghost use Rattle.ground.specs.Judging.{first};
+ghost use Rattle.ground.specs.Refusals.{judged};
 ghost use Rattle.link.specs.Range.{InRange};
-ghost use Rattle.checker.specs.Answer.{said, answer, named};
+ghost use Rattle.checker.specs.Answer.{said, found, answer, named};
 ghost use Rattle.checker.specs.Judging.{clear_faults};
 
-use ground::Judged;
-use link::limits::{MAX_ROWS, NOT_CLEAR};
-use link::{Link, Met};
+use ground::{Fault, Refusal};
+use link::limits::MAX_ROWS;
+use link::{Circle, Crossing, Link, Start};
 
-#[derive(Clone, Copy)]
-pub enum Checked {
-    Clear,
-    Collision {
-        earlier: usize,
-        later: usize,
-        crossing: u32,
-    },
-    Refused {
-        number: u32,
-        place: usize,
-    },
+// Two rows that meet, and the crossing.
+#[derive(Clone, Copy, Debug, PartialEq, Eq)]
+pub struct Collision {
+    pub earlier: usize,
+    pub later: usize,
+    pub crossing: Crossing,
 }
 
 // Judges a table and its offsets, and names the first collision.
-pub fn check(link: Link, delays: &[u32], offsets: &[u32]) -> Checked
+pub fn check(link: Link, delays: &[u32], offsets: &[u32]) -> Result<Option<Collision>, Fault>
     ensures { said result ≡ answer link delays.now offsets.now }
 {
-    match link::judge::plan(link, delays, offsets) {
-        Judged::Fault { number, place } => Checked::Refused { number, place },
-        Judged::Fine => first_collision(link.period, link::span(link), delays, offsets),
-    }
+    link::judge::plan(link, delays, offsets)?;
+    Ok(first_collision(link.circle(), delays, offsets))
 }
 
 // A plan that is to be clear: what `check` refuses, and 18 at the later row of the collision that it names.
-pub fn judge_clear(link: Link, delays: &[u32], offsets: &[u32]) -> Judged
-    ensures { result ≡ first (clear_faults link delays.now offsets.now) }
+pub fn judge_clear(link: Link, delays: &[u32], offsets: &[u32]) -> Result<(), Fault>
+    ensures { judged result ≡ first (clear_faults link delays.now offsets.now) }
 {
-    match check(link, delays, offsets) {
-        Checked::Refused { number, place } => Judged::Fault { number, place },
-        Checked::Collision {
-            earlier: _,
-            later,
-            crossing: _,
-        } => Judged::Fault {
-            number: NOT_CLEAR,
-            place: later,
-        },
-        Checked::Clear => Judged::Fine,
+    match check(link, delays, offsets)? {
+        None => Ok(()),
+        Some(collision) => Err(Fault {
+            refusal: Refusal::NotClear,
+            place: collision.later,
+        }),
     }
 }
 
-// The collision of the least later row, or clear; second starts are kept, so that each is worked out once.
-fn first_collision(period: u32, span: u32, delays: &[u32], offsets: &[u32]) -> Checked
-    requires { InRange period span delays.now offsets.now }
-    ensures { said result ≡ named period span delays.now offsets.now }
+// The collision of the least later row; starts are kept, so that each is worked out once.
+fn first_collision(circle: Circle, delays: &[u32], offsets: &[u32]) -> Option<Collision>
+    requires { InRange circle.period circle.span delays.now offsets.now }
+    ensures { found result ≡ named circle.period circle.span delays.now offsets.now }
 {
-    let mut seconds = [0u32; MAX_ROWS];
-    let mut j: usize = 0;
-    while j < delays.len() {
-        let a = offsets[j];
-        let b = link::second_start(period, delays[j], a);
-        match link::first_met(period, span, &offsets[..j], &seconds[..j], a, b) {
-            Met::Row { row, crossing } => {
-                return Checked::Collision {
-                    earlier: row,
-                    later: j,
-                    crossing,
-                };
-            }
-            Met::Nobody => {
-                seconds[j] = b;
-                j += 1;
-            }
+    let mut starts = [Start {
+        first: 0,
+        second: 0,
+    }; MAX_ROWS];
+    for (later, delay) in delays.iter().enumerate() {
+        let start = circle.start(*delay, offsets[later]);
+        if let Some(met) = circle.first_met(&starts[..later], start) {
+            return Some(Collision {
+                earlier: met.row,
+                later,
+                crossing: met.crossing,
+            });
         }
+        starts[later] = start;
     }
-    Checked::Clear
+    None
 }

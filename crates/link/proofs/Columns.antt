@@ -1,11 +1,11 @@
 -- The two crossings of a list of starts, place by place, in front, and after one more row. Assumes nothing.
 use mathlib.Core.Path.{◌≡◌, refl}
 use mathlib.Core.Bool.{Bool, not, cond}
-use mathlib.Core.List.{List, [], ◌∷◌, ◌++◌}
-use Prim.Native.Nat.{ℕ, zero, suc, ◌+◌, ◌≤◌, ◌<◌}
+use mathlib.Core.List.{List, [], ◌∷◌}
+use Prim.Native.Nat.{ℕ, zero, suc, ◌<◌}
 use Rattle.std.proofs.lemmas.List.{get_or-map}
 use lib.Dec.{eqb}
-use lib.ListN.{length, length-map, get_or, set, take, drop}
+use lib.ListN.{length, length-map, get_or, set, take}
 use Rattle.link.specs.Slots.{apartb}
 use Rattle.link.specs.Rows.{one, two, near}
 use Rattle.link.specs.Starts.{firsts, seconds, crossing_number}

@@ -1,34 +1,28 @@
-use mathlib.Core.Path.{refl, sym}
+use mathlib.Core.Path.{ap}
 use native.Mathlib.Omega.{arith}
-use lib.Seq.{length-take-le}
-use Rattle.ground.proofs.Filling.{same_front}
-use Rattle.checker.specs.Answer.{said}
+use Rattle.checker.specs.Answer.{found}
+use Rattle.link.specs.Starts.{met}
+use Rattle.link.proofs.Columns.{firsts_length, seconds_length, firsts_take, seconds_take, firsts_set, seconds_set}
 use Rattle.checker.proofs.Naming.{none_yet, stops, goes_on, named_clear}
 use Rattle.checker.proofs.first_collision.Goals as goal
 
-pub loop-j-init : goal.loop-j-init
-loop-j-init c = none_yet _ _ _ _ _ refl
+pub loop-later-init : goal.loop-later-init
+loop-later-init c = none_yet _ _ _ _ _ _ (firsts_length _) (seconds_length _)
 
-pub slice_bounds-first_met-end : goal.slice_bounds-first_met-end
-slice_bounds-first_met-end c = sym (length-take-le _ _ (omega arith))
+pub returns-in-Some : goal.returns-in-Some
+unfolding found
+returns-in-Some c =
+    let near = rw (firsts_take, seconds_take) at c.first_met.ensures in
+    stops _ _ _ _ _ _ _ _ _ _ c.requires c.loop-later.invariant (omega arith) c.start-start.ensures.0 c.start-start.ensures.1 near _ _
+    (ap met c.in-Some.is)
 
-pub slice_bounds-first_met-end-in-loop-j : goal.slice_bounds-first_met-end-in-loop-j
-slice_bounds-first_met-end-in-loop-j c = sym (length-take-le _ _ (omega arith))
-
-pub first_met-requires : goal.first_met-requires
-first_met-requires c = same_front c.loop-j.j c.args.offsets.now c.loop-j.seconds (omega arith) (omega arith)
-
-pub returns-in-Row : goal.returns-in-Row
-unfolding said
-returns-in-Row c =
-    stops _ _ _ _ _ _ _ _ c.requires c.loop-j.invariant (omega arith) c.second_start-b.ensures c.first_met.ensures _ _
-    c.in-Row.is
-
-pub loop-j-preserved : goal.loop-j-preserved
-loop-j-preserved c =
-    goes_on _ _ _ _ _ _ _ _ c.requires c.loop-j.invariant (omega arith) c.second_start-b.ensures c.first_met.ensures
-    c.in-Nobody.is
+pub loop-later-preserved : goal.loop-later-preserved
+loop-later-preserved c =
+    let near = rw (firsts_take, seconds_take) at c.first_met.ensures in
+    rw (firsts_set, seconds_set)
+    (goes_on _ _ _ _ _ _ _ _ _ _ c.requires c.loop-later.invariant (omega arith) c.start-start.ensures.0 c.start-start.ensures.1 near
+    (ap met c.in_default.is))
 
 pub returns : goal.returns
-unfolding said
-returns c = named_clear _ _ _ _ (λ m h. c.loop-j.invariant.none m (omega arith))
+unfolding found
+returns c = named_clear _ _ _ _ (λ m h. c.loop-later.invariant.none m (omega arith))

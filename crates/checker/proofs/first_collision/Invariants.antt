@@ -1,11 +1,7 @@
--- Invariant: the rows before j meet nobody, and `seconds` has their second starts.
-use Prim.Native.Nat.{◌-◌}
-use lib.ListN.{length}
+-- Invariant: the rows before this one meet nobody, and `starts` has their starts.
+use Rattle.link.specs.Starts.{firsts, seconds}
 use Rattle.checker.proofs.Naming.{Walked}
 use Rattle.checker.proofs.first_collision.Given as goal
 
-abbrev pub invariant-loop-j : goal.invariant-loop-j
-invariant-loop-j l = Walked l.period l.span l.delays l.offsets l.seconds l.j
-
-abbrev pub decreases-loop-j : goal.decreases-loop-j
-decreases-loop-j l = length l.delays - l.j
+abbrev pub invariant-loop-later : goal.invariant-loop-later
+invariant-loop-later l = Walked l.circle.period l.circle.span l.delays l.offsets (firsts l.starts) (seconds l.starts) l.later

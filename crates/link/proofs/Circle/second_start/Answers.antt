@@ -1,5 +1,4 @@
 -- The sum fits 64 bits, and the remainder is below the period.
-use mathlib.Core.Path.{refl}
 use Prim.Native.Nat.{◌+◌}
 use native.Mathlib.Omega.{arith}
 use native.Mathlib.Nat.{mod-lt}

@@ -1,5 +1,6 @@
 -- Each return says which lines of the list do not apply, and which does.
 use mathlib.Core.Path.{sym}
+use mathlib.Core.Logic.{⊎_elim}
 use mathlib.Core.List.{[]}
 use lib.Dec.{ltb}
 use native.Mathlib.Omega.{arith}
@@ -7,13 +8,11 @@ use Rattle.link.specs.Limits.{max_delay}
 use Rattle.link.specs.Refusal.{row_faults}
 use Rattle.ground.proofs.Faults.{hit, pass, hit_found, pass_found, fine, below, above, inside}
 use Rattle.link.proofs.judge.rows.Goals as goal
-use Rattle.link.proofs.judge.rows.Goals.{then-n-eq0-via-then-n-eq0, then-n-eq0-via-else-n-eq0+then-n-gt-MAX_ROWS}
 
 pub returns-then-n-eq0 : goal.returns-then-n-eq0
 unfolding row_faults
-returns-then-n-eq0 c = elim c.then-n-eq0.branch [
-  | then-n-eq0-via-then-n-eq0 w ↦ hit _ _ _ _ (below _ _ _ (omega arith))
-  | then-n-eq0-via-else-n-eq0+then-n-gt-MAX_ROWS w ↦ hit _ _ _ _ (above _ _ _ (omega arith)) ]
+returns-then-n-eq0 c =
+    ⊎_elim (λ e. hit _ _ _ _ (below _ _ _ (omega arith))) (λ w. hit _ _ _ _ (above _ _ _ (omega (arith, w.1)))) c.then-n-eq0.either
 
 pub returns-in-Some : goal.returns-in-Some
 unfolding row_faults
