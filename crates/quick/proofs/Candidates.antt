@@ -1,12 +1,15 @@
 -- The candidates 0, step, .., (count-1) step. Assumes nothing.
 use mathlib.Core.Path.{◌≡◌, ap, ◌∙◌, subst}
+use mathlib.Core.Bool.{Bool, not}
 use mathlib.Core.List.{List}
 use Prim.Native.Nat.{ℕ, ◌+◌, ◌*◌, ◌%◌, ◌≤◌, ◌<◌}
 use native.Mathlib.Omega.{arith}
 use native.Mathlib.Nat.{suc-mul, mul-le-mul_right, mod-add-mod, add_right_comm}
 use native.Mathlib.Numerals.{add-one}
-use Rattle.link.specs.Rows.{second, first_near, is_nobody}
-use Rattle.link.specs.Rows.{Met}
+use Rattle.std.specs.Prelude.{Option, Some, None, is_some}
+use Rattle.link.specs.Rows.{Met, second, first_near, is_nobody}
+use Rattle.link.specs.Starts.{met}
+use Rattle.link.specs.declared.Met.{Met as RowMet}
 use Rattle.quick.specs.Ways.{Ways, open_to}
 
 pub next_low : (c count step : ℕ) → c < count → c * step + step ≤ count * step
@@ -28,3 +31,8 @@ pub opens : (p l d : ℕ) (xs ys : List ℕ) (step c a b : ℕ) (m : Met) → a 
     → open_to p l d xs ys step c ≡ is_nobody m
 unfolding open_to
 opens p l d xs ys step c a b m e f g = rw (g, f, e)
+
+-- somebody is met exactly where the code names a row
+pub some_met : (m : Option RowMet) {b : Bool} → is_some m ≡ b → is_nobody (met m) ≡ not b
+some_met None e = ap not e
+some_met (Some m) e = ap not e

@@ -8,14 +8,11 @@ use native.Mathlib.Nat.{mul-one, div-one}
 use lib.ListN.{length, get_or}
 use Rattle.ground.specs.Lent.{on_front}
 use Rattle.ground.specs.Protocol.{gives}
-use Rattle.link.specs.Limits.{no_offset}
 use Rattle.link.specs.Rows.{span_of, free}
 use Rattle.link.specs.declared.Link.{Link}
 use Rattle.quick.specs.Plan.{free_at}
 use Rattle.quick.specs.Right.{LeastFree, Placed, LeastFreeOffset}
-use Rattle.quick.specs.Answer.{said, first_fit, meta_offset}
-use Rattle.quick.specs.declared.Planned.{Planned}
-use Rattle.quick.specs.declared.Planned.TheVariants.{Plan, Refused}
+use Rattle.quick.specs.Answer.{Planned, planned, thirteen, said, first_fit, meta_offset}
 use Rattle.quick.proofs.Promises.{plan_is_right, thirteen_exactly}
 
 module _ (p l : ℕ) (ds os : List ℕ) where
@@ -37,13 +34,13 @@ module _ (k : Link) (ds old : List ℕ) (r : Planned) (new : List ℕ) (e : give
   abbrev Right : List ℕ → ℕ → Type 0
   Right os j = LeastFreeOffset k.period (span_of k) ds os j
 
-  pub first_fit_plan : r ≡ Plan → (os : List ℕ) × (length os ≡ length ds) × (new ≡ on_front os old) × ((j : ℕ) → j < length ds → Right os j)
+  pub first_fit_plan : r ≡ planned → (os : List ℕ) × (length os ≡ length ds) × (new ≡ on_front os old) × ((j : ℕ) → j < length ds → Right os j)
   first_fit_plan c =
       let w = (plan_is_right k ds old 1 k.period r new e).0 c in
       (w.offsets, w.right.as_many, w.written, each_least k.period (span_of k) ds w.offsets (length ds) w.right)
 
   -- 13 at row j: the rows before have their least free offsets, and no offset is free for row j
-  pub first_fit_thirteen : (j : ℕ) → r ≡ Refused no_offset j
+  pub first_fit_thirteen : (j : ℕ) → r ≡ thirteen j
       → (os : List ℕ) × ((i : ℕ) → i < j → Right os i)
       × ((a : ℕ) → a < k.period → free k.period (span_of k) ds os j (get_or ds j 0) a ≡ false)
   unfolding free_at

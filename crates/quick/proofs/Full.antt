@@ -14,18 +14,16 @@ use Rattle.ground.specs.Series.{listed}
 use Rattle.ground.proofs.Bools.{lt_or_ge}
 use Rattle.ground.proofs.Minimum.{some_at, some_none}
 use Rattle.ground.proofs.Series.{length_listed, get_or_listed}
-use Rattle.link.specs.Limits.{max_period, max_rows, no_offset}
+use Rattle.link.specs.Limits.{max_period, max_rows}
 use Rattle.link.specs.Range.{GoodTable}
 use Rattle.link.specs.Rows.{one, two, second, start, hits, either, free}
 use Rattle.link.specs.Slots.{gap}
 use Rattle.link.proofs.OnCircle.{Apart, apart_met, near_met}
 use Rattle.link.proofs.Meeting.{neither, hit_either}
-use Rattle.quick.specs.Answer.{said, quick}
+use Rattle.quick.specs.Answer.{Planned, thirteen, said, quick}
 use Rattle.quick.specs.Loads.{full_delays}
 use Rattle.quick.specs.Plan.{free_at}
 use Rattle.quick.specs.Right.{LeastFree, Stuck}
-use Rattle.quick.specs.declared.Planned.{Planned}
-use Rattle.quick.specs.declared.Planned.TheVariants.{Refused}
 use Rattle.quick.proofs.Candidates.{next_low}
 use Rattle.quick.proofs.Promises.{thirteen_exactly}
 
@@ -163,7 +161,7 @@ module _ (d : ℕ → ℕ) (p t u : ℕ) (w : Spread d p t u) where
 
     -- the last row gets 13
     pub last_refused : u < max_rows → p ≤ max_period → (old : List ℕ) → u < length old → (r : Planned) (new : List ℕ)
-        → gives (said r) new ≡ quick (record { period = p; size = t }) ds old step count → r ≡ Refused no_offset u
+        → gives (said r) new ≡ quick (record { period = p; size = t }) ds old step count → r ≡ thirteen u
     last_refused many short old room r new e =
         (thirteen_exactly (record { period = p; size = t }) ds old step count r new e u).1
         (record { table = in_range many short; room = omega (arith, rows_of); row = omega (arith, rows_of); stuck = full_stuck })

@@ -2,8 +2,10 @@
 pub mod Candidates
 pub mod Standing
 pub mod Placing
+pub mod Keeping
 pub mod Entries
 pub mod Sound
+pub mod Saying
 pub mod Promises
 pub mod FirstFit
 pub mod Following

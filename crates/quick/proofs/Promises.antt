@@ -6,6 +6,8 @@ use mathlib.Core.List.{List}
 use Prim.Native.Nat.{ℕ, ◌≤◌, ◌<◌}
 use native.Mathlib.Omega.{arith}
 use lib.ListN.{length}
+use Rattle.std.specs.Prelude.{Err}
+use Rattle.ground.specs.declared.Fault.{Fault}
 use Rattle.ground.specs.Judging.{first}
 use Rattle.ground.specs.Least.{least}
 use Rattle.ground.specs.Lent.{on_front}
@@ -22,22 +24,9 @@ use Rattle.link.proofs.Accepted.{good_room, fine_room, planner_low}
 use Rattle.link.proofs.Clearness.{clear_rows}
 use Rattle.quick.specs.Plan.{free_at, Progress, rows, stuck, all_placed}
 use Rattle.quick.specs.Right.{Placed, GivenPlan, NoOffset}
-use Rattle.quick.specs.Answer.{Verdict, plan, refusal, Said, planning, refusing, said, outcome, quick}
-use Rattle.quick.specs.declared.Planned.{Planned}
-use Rattle.quick.specs.declared.Planned.TheVariants.{Plan, Refused}
+use Rattle.quick.specs.Answer.{Planned, planned, thirteen, Verdict, Said, planning, refusing, said, outcome, quick}
+use Rattle.quick.proofs.Saying.{unsaid, again}
 use Rattle.quick.proofs.Sound.{Says, all, some_row, says, all_is, stuck_is}
-
-abbrev pub unsaid_as : Verdict → Said → Planned
-unsaid_as plan s = Plan
-unsaid_as refusal s = Refused s.number s.place
-
-abbrev pub unsaid : Said → Planned
-unsaid s = unsaid_as s.verdict s
-
-pub again : (r : Planned) → unsaid (said r) ≡ r
-unfolding said
-again Plan = refl
-again (Refused n p) = refl
 
 -- no second answer, and no second content of the list, meets the contract
 pub no_second : (k : Link) (ds old : List ℕ) (step count : ℕ) (r s : Planned) (new other : List ℕ)
@@ -66,18 +55,18 @@ module _ (k : Link) (ds old : List ℕ) (step count : ℕ) where
   module _ (r : Planned) (new : List ℕ) (e : gives (said r) new ≡ quick k ds old step count) where
     -- rows placed right, in a table in range with room for their offsets, are the plan
     pub right_plan : GoodTable k ds → length ds ≤ length old → (os : List ℕ) → Placed k.period (span_of k) ds step count (length ds) os
-        → r ≡ Plan
+        → r ≡ planned
     unfolding outcome said
     right_plan g h os w =
-        (no_second k ds old step count r Plan new (on_front os old) e
+        (no_second k ds old step count r planned new (on_front os old) e
         (answers (sym (fine_room k ds (length old) g h)) (all_is k.period (span_of k) ds step count os (length ds) w) refl)).0
 
     -- a plan is given exactly when each row has its least free one of the planner's offsets; they are clear, and stand in the list
-    pub plan_is_right : (r ≡ Plan) ↔ GivenPlan k ds old step count new
+    pub plan_is_right : (r ≡ planned) ↔ GivenPlan k ds old step count new
     unfolding quick outcome said
     plan_is_right = (there, λ w. right_plan w.table w.room w.offsets w.right)
       where
-        there : r ≡ Plan → GivenPlan k ds old step count new
+        there : r ≡ planned → GivenPlan k ds old step count new
         there c =
             let w = let_through (keeping refusing old) (first (planner_faults k ds (length old))) (λ n q h. never (cc (ap verdict h)))
             (ap (λ (x : Planned). gives (said x) new) (sym c) ∙ e) in
@@ -98,7 +87,7 @@ module _ (k : Link) (ds old : List ℕ) (step count : ℕ) where
                 }
 
     -- 13 at row j exactly when the rows before have their least free offsets and row j has none
-    pub thirteen_exactly : (j : ℕ) → (r ≡ Refused no_offset j) ↔ NoOffset k ds old step count j
+    pub thirteen_exactly : (j : ℕ) → (r ≡ thirteen j) ↔ NoOffset k ds old step count j
     unfolding quick outcome said
     thirteen_exactly j = (λ c. there (told (keeping refusing old) _ (ap (λ (x : Planned). gives (said x) new) (sym c) ∙ e)), back)
       where
@@ -117,27 +106,27 @@ module _ (k : Link) (ds old : List ℕ) (step count : ℕ) where
             absurd (omega (arith, planner_low k ds (length old) n p f))
         there (through f g) = row (good_room k ds (length old) f) (says k.period (span_of k) ds step count (length ds)) g
 
-        back : NoOffset k ds old step count j → r ≡ Refused no_offset j
+        back : NoOffset k ds old step count j → r ≡ thirteen j
         back w =
-            (no_second k ds old step count r (Refused no_offset j) new old e
+            (no_second k ds old step count r (thirteen j) new old e
             (answers (sym (fine_room k ds (length old) w.table w.room))
             (stuck_is k.period (span_of k) ds step count j (length ds) w.row w.stuck) refl)).0
 
     -- row 0 is never refused
-    pub row_0_has_one : 0 < count → r ≡ Refused no_offset 0 → ⊥
+    pub row_0_has_one : 0 < count → r ≡ thirteen 0 → ⊥
     unfolding free_at free least
     row_0_has_one h c = clash refl (((thirteen_exactly 0).0 c).stuck.none 0 h)
 
     -- "Every refusal .. leaves all output buffers with the bytes and numbers they had."
-    pub refusal_keeps : (n q : ℕ) → r ≡ Refused n q → new ≡ old
+    pub refusal_keeps : (f : Fault) → r ≡ Err f → new ≡ old
     unfolding quick outcome said
-    refusal_keeps n q c = go (told (keeping refusing old) _ (ap (λ (x : Planned). gives (said x) new) (sym c) ∙ e))
+    refusal_keeps f c = go (told (keeping refusing old) _ (ap (λ (x : Planned). gives (said x) new) (sym c) ∙ e))
       where
-        row : (o : Progress) → gives (refusing n q) new ≡ outcome o old → new ≡ old
+        row : (o : Progress) → gives (said (Err f)) new ≡ outcome o old → new ≡ old
         row (stuck j) g = ap (λ (x : Answer). x.leaves) g
         row (rows os) g = never (cc (ap verdict g))
 
         go : Told (keeping refusing old) (first (planner_faults k ds (length old)))
-            (outcome (all_placed k.period (span_of k) ds step count) old) (gives (refusing n q) new) → new ≡ old
-        go (stopped m p f g) = ap (λ (x : Answer). x.leaves) g
+            (outcome (all_placed k.period (span_of k) ds step count) old) (gives (said (Err f)) new) → new ≡ old
+        go (stopped m p h g) = ap (λ (x : Answer). x.leaves) g
         go (through f g) = row (all_placed k.period (span_of k) ds step count) g

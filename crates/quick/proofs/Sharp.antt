@@ -10,12 +10,10 @@ use native.Mathlib.Nat.{le_of_mul-le-mul_right, div-mul-le_self, lt-div-mul-add,
 use lib.ListN.{length}
 use Rattle.ground.specs.Protocol.{gives}
 use Rattle.ground.proofs.Bools.{lt_or_ge}
-use Rattle.link.specs.Limits.{max_period, max_rows, no_offset}
+use Rattle.link.specs.Limits.{max_period, max_rows}
 use Rattle.link.specs.Slots.{gap}
-use Rattle.quick.specs.Answer.{said, first_fit, meta_offset}
+use Rattle.quick.specs.Answer.{Planned, thirteen, said, first_fit, meta_offset}
 use Rattle.quick.specs.Loads.{full_for_meta_offset, full_for_first_fit}
-use Rattle.quick.specs.declared.Planned.{Planned}
-use Rattle.quick.specs.declared.Planned.TheVariants.{Refused}
 use Rattle.quick.proofs.Candidates.{next_low}
 use Rattle.quick.proofs.Enough.{messages}
 use Rattle.quick.proofs.Full.{Spread, Covered, last_refused}
@@ -23,7 +21,7 @@ use Rattle.quick.proofs.Full.{Spread, Covered, last_refused}
 -- Meta-Offset: every period, size from 2 on and number of rows from 2 on where P divided by T is 3n-3; n is u + 1
 module _ (p t u : ℕ) (rows : 1 ≤ u) (many : u < max_rows) (wide : 2 ≤ t) (low : p ≤ max_period) (short : p / t ≡ 3 * u) where
   pub meta_offset_sharp : (old : List ℕ) → u < length old → (r : Planned) (new : List ℕ)
-      → gives (said r) new ≡ meta_offset (record { period = p; size = t }) (full_for_meta_offset p t u) old → r ≡ Refused no_offset u
+      → gives (said r) new ≡ meta_offset (record { period = p; size = t }) (full_for_meta_offset p t u) old → r ≡ thirteen u
   meta_offset_sharp =
       last_refused d p t u spread t (p / t) (λ i. i) (λ i h. refl) (λ i h. omega arith) (omega arith)
       (λ c h. omega (arith, next_low c (p / t) t h, div-mul-le_self p t)) cover many low
@@ -65,7 +63,7 @@ module _ (p t u : ℕ) (rows : 1 ≤ u) (many : u < max_rows) (wide : 2 ≤ t) (
 module _ (p t u : ℕ) (rows : 1 ≤ u) (many : u < max_rows) (some : 1 ≤ t) (low : p ≤ max_period)
     (short : p + (u + 1) ≡ (3 * (u + 1) - 2) * t) where
   pub first_fit_sharp : (old : List ℕ) → u < length old → (r : Planned) (new : List ℕ)
-      → gives (said r) new ≡ first_fit (record { period = p; size = t }) (full_for_first_fit p t u) old → r ≡ Refused no_offset u
+      → gives (said r) new ≡ first_fit (record { period = p; size = t }) (full_for_first_fit p t u) old → r ≡ thirteen u
   first_fit_sharp =
       last_refused d p t u spread 1 p (λ i. i * t) (λ i h. mul-one (i * t)) (λ i h. omega (arith, spread.high i h)) (omega arith)
       (λ c h. omega (arith, mul-one c)) cover many low

@@ -1,15 +1,16 @@
 -- What a quick planner answers, and what it leaves in the lent list.
-use Rattle.std.specs.Prelude.{List, ℕ, ◌/◌, length}
+use Rattle.std.specs.Prelude.{List, ℕ, ◌/◌, length, Result, Ok, Err}
 use Rattle.ground.specs.Judging.{first}
 use Rattle.ground.specs.Lent.{on_front}
 use Rattle.ground.specs.Protocol.{Outcome, gives, keeping, unless}
+use Rattle.ground.specs.Refusals.{number_of}
+use Rattle.ground.specs.declared.Fault.{Fault}
+use Rattle.ground.specs.declared.Refusal.TheVariants.{NoOffset}
 use Rattle.link.specs.Limits.{no_offset}
 use Rattle.link.specs.Refusal.{planner_faults}
 use Rattle.link.specs.Rows.{span_of}
 use Rattle.link.specs.declared.Link.{Link}
 use Rattle.quick.specs.Plan.{Progress, rows, stuck, all_placed}
-use Rattle.quick.specs.declared.Planned.{Planned}
-use Rattle.quick.specs.declared.Planned.TheVariants.{Plan, Refused}
 
 pub data Verdict : Type 0 where
   plan refusal : Verdict
@@ -26,9 +27,19 @@ planning = record { verdict = plan; number = 0; place = 0 }
 abbrev pub refusing : ℕ → ℕ → Said
 refusing n p = record { verdict = refusal; number = n; place = p }
 
+-- the code's form of it, and two answers by name: a plan, and 13 at row j
+abbrev pub Planned : Type 0
+Planned = Result Unit Fault
+
+abbrev pub planned : Planned
+planned = Ok tt
+
+abbrev pub thirteen : ℕ → Planned
+thirteen j = Err (record { refusal = NoOffset; place = j })
+
 unfoldable pub said : Planned → Said
-said Plan = planning
-said (Refused n p) = refusing n p
+said (Ok u) = planning
+said (Err f) = refusing (number_of f.refusal) f.place
 
 -- a plan goes into the front of the list, and 13 leaves it as it is
 unfoldable pub outcome : Progress → List ℕ → Outcome Said (List ℕ)

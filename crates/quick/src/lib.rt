@@ -1,137 +1,94 @@
 // First Fit and Meta-Offset: one planner over the offsets 0, step, .., (count-1) step.
 #![tactic(auto)]
 
-ghost use Rattle.std.specs.Prelude.{◌≡◌, ◌≤◌, ◌<◌, length, set};
+ghost use Rattle.std.specs.Prelude.{◌≡◌, ◌≤◌, length};
 ghost use Rattle.link.specs.Limits.{max_rows};
-ghost use Rattle.link.specs.Rows.{second};
-ghost use Rattle.ground.specs.Least.{least_from};
+ghost use Rattle.link.specs.Starts.{firsts, seconds};
 ghost use Rattle.ground.specs.Protocol.{gives};
 ghost use Rattle.quick.specs.Plan.{all_placed};
 ghost use Rattle.quick.specs.Answer.{said, outcome, first_fit, meta_offset};
-ghost use Rattle.quick.specs.Ways.{Ways, open_to};
+ghost use Rattle.quick.specs.Ways.{Ways, FirstOpen, open_to};
 
-use ground::Judged;
-use link::limits::{MAX_ROWS, NO_OFFSET};
-use link::{Link, Met};
-
-#[derive(Clone, Copy)]
-pub enum Planned {
-    Plan,
-    Refused { number: u32, place: usize },
-}
+use ground::{Fault, Refusal};
+use link::limits::MAX_ROWS;
+use link::{Circle, Link, Start};
 
 // Each row gets the least free offset.
-pub fn first_fit(link: Link, delays: &[u32], offsets: &mut [u32]) -> Planned
+pub fn first_fit(link: Link, delays: &[u32], offsets: &mut [u32]) -> Result<(), Fault>
     ensures { gives (said result) offsets.new ≡ first_fit link delays.now offsets.old }
 {
-    match link::judge::planner(link, delays, offsets.len()) {
-        Judged::Fault { number, place } => Planned::Refused { number, place },
-        Judged::Fine => plan(
-            link.period,
-            link::span(link),
-            delays,
-            offsets,
-            1,
-            link.period,
-        ),
-    }
+    link::judge::planner(link, delays, offsets.len())?;
+    plan(link.circle(), delays, offsets, 1, link.period)
 }
 
 // Each row gets the least free multiple of the size.
-pub fn meta_offset(link: Link, delays: &[u32], offsets: &mut [u32]) -> Planned
+pub fn meta_offset(link: Link, delays: &[u32], offsets: &mut [u32]) -> Result<(), Fault>
     ensures { gives (said result) offsets.new ≡ meta_offset link delays.now offsets.old }
 {
-    match link::judge::planner(link, delays, offsets.len()) {
-        Judged::Fault { number, place } => Planned::Refused { number, place },
-        Judged::Fine => {
-            let step = link::span(link);
-            plan(link.period, step, delays, offsets, step, link.period / step)
-        }
-    }
+    link::judge::planner(link, delays, offsets.len())?;
+    let circle = link.circle();
+    plan(
+        circle,
+        delays,
+        offsets,
+        circle.span,
+        circle.period / circle.span,
+    )
 }
 
 // Places the rows in table order; the lent list is written once all have their offsets.
 fn plan(
-    period: u32,
-    span: u32,
+    circle: Circle,
     delays: &[u32],
     offsets: &mut [u32],
     step: u32,
     count: u32,
-) -> Planned
+) -> Result<(), Fault>
     requires delays_len_bound { (length delays.now ≤ max_rows) × (length delays.now ≤ length offsets.old) }
-    requires ways { Ways period span step count }
+    requires ways { Ways circle.period circle.span step count }
     ensures { gives (said result) offsets.new
-        ≡ outcome (all_placed period span delays.now step count) offsets.old }
+        ≡ outcome (all_placed circle.period circle.span delays.now step count) offsets.old }
 {
-    let mut firsts = [0u32; MAX_ROWS];
-    let mut seconds = [0u32; MAX_ROWS];
-    let mut j: usize = 0;
-    while j < delays.len() {
-        let d = delays[j];
-        let c = first_free(period, span, d, &firsts[..j], &seconds[..j], step, 0, count);
-        if c >= count {
-            return Planned::Refused {
-                number: NO_OFFSET,
+    let mut starts = [Start {
+        first: 0,
+        second: 0,
+    }; MAX_ROWS];
+    for (j, delay) in delays.iter().enumerate() {
+        let Some(c) = first_free(circle, *delay, &starts[..j], step, 0, count) else {
+            return Err(Fault {
+                refusal: Refusal::NoOffset,
                 place: j,
-            };
-        }
-        put(period, d, c * step, j, &mut firsts, &mut seconds);
-        j += 1;
+            });
+        };
+        starts[j] = circle.start(*delay, c * step);
     }
-    ground::copy_out(&firsts[..j], offsets);
-    Planned::Plan
+    link::copy_offsets(&starts[..delays.len()], offsets);
+    Ok(())
 }
 
-// A row with this delay comes to this offset.
-pub fn put(
-    period: u32,
-    delay: u32,
-    offset: u32,
-    row: usize,
-    firsts: &mut [u32],
-    seconds: &mut [u32],
-)
-    requires { (0 < period) × (row < length firsts.old) × (row < length seconds.old) }
-    ensures { (firsts.new ≡ set firsts.old row offset)
-        × (seconds.new ≡ set seconds.old row (second period delay offset)) }
-{
-    firsts[row] = offset;
-    seconds[row] = link::second_start(period, delay, offset);
-}
-
-// The least candidate, of those from `from` on, at which a row with this delay meets none of the rows so far, or the count.
+// The least candidate, of those from `from` on and below the count, at which a row with this delay meets none of the rows so far.
 pub fn first_free(
-    period: u32,
-    span: u32,
+    circle: Circle,
     delay: u32,
-    firsts: &[u32],
-    seconds: &[u32],
+    starts: &[Start],
     step: u32,
     from: u32,
     count: u32,
-) -> u32
-    requires ways { Ways period span step count }
-    requires from_le_count { (from ≤ count) × (length firsts.now ≡ length seconds.now) }
-    ensures { result ≡ least_from (open_to period span delay firsts.now seconds.now step) from count }
+) -> Option<u32>
+    requires ways { Ways circle.period circle.span step count }
+    requires from_le_count { from ≤ count }
+    ensures { FirstOpen (open_to circle.period circle.span delay (firsts starts.now) (seconds starts.now) step)
+        from count result }
 {
-    let mut c = from;
-    let mut a = from * step;
-    let mut b = link::second_start(period, delay, a);
-    while c < count {
-        match link::first_met(period, span, firsts, seconds, a, b) {
-            Met::Nobody => {
-                return c;
-            }
-            Met::Row {
-                row: _,
-                crossing: _,
-            } => {
-                c += 1;
-                a += step;
-                b = link::turn(period, b, step);
-            }
+    let mut new = circle.start(delay, from * step);
+    for c in from..count {
+        if circle.first_met(starts, new).is_none() {
+            return Some(c);
         }
+        new = Start {
+            first: new.first + step,
+            second: circle.turn(new.second, step),
+        };
     }
-    c
+    None
 }
