@@ -16,11 +16,7 @@ use Rattle.text.specs.Limits.{cut_line}
 use Rattle.text.specs.Bytes.{newline, seek}
 use Rattle.text.specs.Lines.{next_line, line_from, ended_from}
 use Rattle.text.specs.Faults.{is_last, title_faults, own_faults}
-use Rattle.text.specs.Steps.{faults_from, pair_says, last_says, row_says, second_says, line_says}
-use Rattle.text.specs.declared.judge.Head.{Head}
-use Rattle.text.specs.declared.judge.Head.TheVariants.{Wrong as WrongHead}
-use Rattle.text.specs.declared.judge.Line.{Line}
-use Rattle.text.specs.declared.judge.Line.TheVariants.{Wrong}
+use Rattle.text.specs.Steps.{faults_from, pair_says, last_says, row_says, second_says, line_says, HeadSaid, WrongHead, LineSaid, Wrong}
 
 -- the line that begins at `at`, and ends at e if a byte 10 remains
 module _ (x : List ℕ) (at e : ℕ) (h : e ≡ at + seek newline (drop at x)) where
@@ -60,11 +56,11 @@ module _ (x : List ℕ) (at e : ℕ) (h : e ≡ at + seek newline (drop at x)) w
         let l : seek newline (drop at x) < length (drop at x) = omega (arith, leb-false (length x) e c, length-drop at x) in
         sym (pass _ _ cut_line at (ap not (lt-ltb (seek newline (drop at x)) (length (drop at x)) l)) refl)
 
-    pub second_answer : (r : Head) → r ≡ pair_says (take (e - at) (drop at x)) at (e + 1) → r ≡ second_says x at
+    pub second_answer : (r : HeadSaid) → r ≡ pair_says (take (e - at) (drop at x)) at (e + 1) → r ≡ second_says x at
     unfolding second_says own_faults
     second_answer r f = rw (line_own 1) (rw (line_part, next_part) at f)
 
-    module _ (n : ℕ) (r : Line) where
+    module _ (n : ℕ) (r : LineSaid) where
       pub last_answer : is_last (take (e - at) (drop at x)) ≡ true → r ≡ last_says n (take (e - at) (drop at x)) at (e + 1)
           → r ≡ line_says x at n
       unfolding line_says own_faults

@@ -5,6 +5,7 @@ use mathlib.Core.List.{List}
 use Prim.Native.Nat.{ℕ, ◌+◌, ◌-◌, ◌<◌}
 use native.Mathlib.Omega.{arith}
 use lib.Dec.{eqb}
+use Rattle.std.specs.Prelude.{Some}
 use lib.ListN.{length, get_or, take, drop, length-drop}
 use lib.Seq.{length-take-le, get_or-take, get_or-drop}
 use borrow.Author.Tests.{eq-eqb, ne_eqb, lt-leb}
@@ -12,9 +13,7 @@ use Rattle.ground.proofs.Filling.{tail_part}
 use Rattle.ground.proofs.Minimum.{least_at}
 use Rattle.text.specs.Bytes.{newline, seek}
 use Rattle.text.specs.Decimal.{is_decimal}
-use Rattle.text.specs.Steps.{Counted, InFront, NumberLine, number_says, delay_says, line_says}
-use Rattle.text.specs.declared.decimal.Number.TheVariants.{Is}
-use Rattle.text.specs.declared.judge.Line.{Line}
+use Rattle.text.specs.Steps.{Counted, InFront, NumberLine, number_says, delay_says, line_says, LineSaid}
 use Rattle.text.proofs.Decimals.{digit, is_decimal_lem}
 use Rattle.text.proofs.Forms.{row_not_last}
 use Rattle.text.proofs.Lined.{row_answer}
@@ -52,11 +51,11 @@ module _ (x : List ℕ) (at d v : ℕ) (w : InFront (take (length x - at) (drop 
       })
 
   -- its number, and so the row
-  says_number : Is v ≡ number_says (take (at + d - at) (drop at x))
+  says_number : Some v ≡ number_says (take (at + d - at) (drop at x))
   unfolding number_says
-  says_number = let k : at + d - at ≡ d = omega arith in rw is_number (ap Is (rw k counted.so_far))
+  says_number = let k : at + d - at ≡ d = omega arith in rw is_number (ap Some (rw k counted.so_far))
 
-  pub number_answer : (rows : ℕ) (r : Line) → r ≡ delay_says rows v at (at + d + 1) → r ≡ line_says x at rows
+  pub number_answer : (rows : ℕ) (r : LineSaid) → r ≡ delay_says rows v at (at + d + 1) → r ≡ line_says x at rows
   number_answer rows r e =
       row_answer x at (at + d) behind (lt-leb (length x) (at + d) n.inside) rows r (row_not_last _ is_number)
       (row_value rows _ at (at + d + 1) v r says_number e)

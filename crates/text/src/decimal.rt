@@ -5,13 +5,6 @@ ghost use Rattle.text.specs.Steps.{InFront, number_says};
 
 const MAX_DIGITS: usize = 8;
 
-// What bytes say as a number.
-#[derive(Clone, Copy)]
-pub enum Number {
-    Is { value: u32 },
-    Not,
-}
-
 // So many digits in front of bytes, and their value.
 #[derive(Clone, Copy)]
 pub struct Front {
@@ -60,21 +53,21 @@ pub(crate) fn digits(bytes: &[u8]) -> Front
 }
 
 // The number that the bytes are.
-pub(crate) fn read(bytes: &[u8]) -> Number
+pub(crate) fn read(bytes: &[u8]) -> Option<u32>
     ensures { result ≡ number_says bytes.now }
 {
     if bytes.len() < 1 {
-        return Number::Not;
+        return None;
     }
     if bytes.len() > MAX_DIGITS {
-        return Number::Not;
+        return None;
     }
     if leading_zero(bytes) {
-        return Number::Not;
+        return None;
     }
     let front = digits(bytes);
     if front.digits < bytes.len() {
-        return Number::Not;
+        return None;
     }
-    Number::Is { value: front.value }
+    Some(front.value)
 }

@@ -1,89 +1,72 @@
 // What a line says by itself, or what is wrong with it: its bytes, and the place of the first.
 ghost use Rattle.std.specs.Prelude.{◌≡◌, true};
 ghost use Rattle.ground.specs.Judging.{first};
+ghost use Rattle.ground.specs.Refusals.{judged};
 ghost use Rattle.text.specs.Faults.{is_last, title_faults};
-ghost use Rattle.text.specs.Steps.{numbers_say, pair_says, row_says, delay_says, last_says};
+ghost use Rattle.text.specs.Steps.{head_said, line_said, numbers_say, pair_says, row_says, delay_says, last_says};
 
-use crate::decimal::Number;
-use crate::limits::{BAD_COUNT, BAD_LINE, BAD_LINE_ONE};
 use crate::{bytes, decimal};
-use ground::Judged;
+use ground::{Fault, Refusal};
 use link::Link;
-use link::limits::{BAD_DELAY, BAD_ROWS, MAX_DELAY, MAX_ROWS};
+use link::limits::{MAX_DELAY, MAX_ROWS};
 
 // The length of `end` and a space.
 const END_WORD: usize = 4;
 
-// Two numbers with one space between them, or anything else.
-#[derive(Drop)]
-enum Numbers {
-    Are { link: Link },
-    Not,
+// The first two lines: the link, and where the rows begin.
+#[derive(Clone, Copy)]
+pub(crate) struct Head {
+    pub(crate) link: Link,
+    pub(crate) at: usize,
 }
 
-// The first two lines: the link, and where the rows begin; or their first fault.
+// A line behind them: a row with its delay, or the last one, and the place behind it.
 #[derive(Clone, Copy)]
-pub enum Head {
-    Rows { link: Link, at: usize },
-    Wrong { number: u32, place: usize },
-}
-
-// A line behind them: a row with its delay, or the last one, and the place behind it; or its first fault.
-#[derive(Clone, Copy)]
-pub enum Line {
+pub(crate) enum Line {
     More { delay: u32, next: usize },
     Last { next: usize },
-    Wrong { number: u32, place: usize },
 }
 
 // Line one: 2.
-pub(crate) fn title(line: &[u8], at: usize) -> Judged
-    ensures { result ≡ first (title_faults line.now at) }
+pub(crate) fn title(line: &[u8], at: usize) -> Result<(), Fault>
+    ensures { judged result ≡ first (title_faults line.now at) }
 {
-    if bytes::same(b"pma 1", line) {
-        return Judged::Fine;
+    if !bytes::same(b"pma 1", line) {
+        return Err(Fault {
+            refusal: Refusal::BadLineOne,
+            place: at,
+        });
     }
-    Judged::Fault {
-        number: BAD_LINE_ONE,
-        place: at,
-    }
+    Ok(())
 }
 
 // Two numbers with one space between them.
-fn two_numbers(line: &[u8]) -> Numbers
+fn two_numbers(line: &[u8]) -> Option<Link>
     ensures { result ≡ numbers_say line.now }
 {
     let k = bytes::seek(line, b' ');
     if k >= line.len() {
-        return Numbers::Not;
+        return None;
     }
-    match decimal::read(&line[..k]) {
-        Number::Not => Numbers::Not,
-        Number::Is { value: period } => {
-            let from = k + 1;
-            match decimal::read(&line[from..]) {
-                Number::Not => Numbers::Not,
-                Number::Is { value: size } => Numbers::Are {
-                    link: Link { period, size },
-                },
-            }
-        }
-    }
+    let period = decimal::read(&line[..k])?;
+    let from = k + 1;
+    let size = decimal::read(&line[from..])?;
+    Some(Link { period, size })
 }
 
 // Line two, behind which `next` is the place: 4, 5, 6.
-pub(crate) fn line_two(line: &[u8], at: usize, next: usize) -> Head
-    ensures { result ≡ pair_says line.now at next }
+pub(crate) fn line_two(line: &[u8], at: usize, next: usize) -> Result<Head, Fault>
+    ensures { head_said result ≡ pair_says line.now at next }
 {
-    match two_numbers(line) {
-        Numbers::Not => Head::Wrong {
-            number: BAD_LINE,
+    let Some(link) = two_numbers(line) else {
+        return Err(Fault {
+            refusal: Refusal::BadLine,
             place: at,
-        },
-        Numbers::Are { link } => match link::judge::link_values(link) {
-            Judged::Fault { number, place: _ } => Head::Wrong { number, place: at },
-            Judged::Fine => Head::Rows { link, at: next },
-        },
+        });
+    };
+    match link::judge::link_values(link) {
+        Ok(_) => Ok(Head { link, at: next }),
+        Err(fault) => Err(Fault { place: at, ..fault }),
     }
 }
 
@@ -95,61 +78,59 @@ pub(crate) fn is_last(line: &[u8]) -> bool
 }
 
 // A row behind so many others: 4, 7, 8.
-pub(crate) fn row_line(line: &[u8], at: usize, rows: usize, next: usize) -> Line
-    ensures { result ≡ row_says rows line.now at next }
+pub(crate) fn row_line(line: &[u8], at: usize, rows: usize, next: usize) -> Result<Line, Fault>
+    ensures { line_said result ≡ row_says rows line.now at next }
 {
-    match decimal::read(line) {
-        Number::Not => Line::Wrong {
-            number: BAD_LINE,
+    let Some(delay) = decimal::read(line) else {
+        return Err(Fault {
+            refusal: Refusal::BadLine,
             place: at,
-        },
-        Number::Is { value } => delay_line(value, at, rows, next),
-    }
+        });
+    };
+    delay_line(delay, at, rows, next)
 }
 
 // A row whose number is read: 7, 8.
-pub(crate) fn delay_line(delay: u32, at: usize, rows: usize, next: usize) -> Line
-    ensures { result ≡ delay_says rows delay at next }
+pub(crate) fn delay_line(delay: u32, at: usize, rows: usize, next: usize) -> Result<Line, Fault>
+    ensures { line_said result ≡ delay_says rows delay at next }
 {
     if delay > MAX_DELAY {
-        return Line::Wrong {
-            number: BAD_DELAY,
+        return Err(Fault {
+            refusal: Refusal::BadDelay,
             place: at,
-        };
+        });
     }
     if rows >= MAX_ROWS {
-        return Line::Wrong {
-            number: BAD_ROWS,
+        return Err(Fault {
+            refusal: Refusal::BadRows,
             place: at,
-        };
+        });
     }
-    Line::More { delay, next }
+    Ok(Line::More { delay, next })
 }
 
 // The last line, behind so many rows: 4, 8, 9.
-pub(crate) fn last_line(line: &[u8], at: usize, rows: usize, next: usize) -> Line
+pub(crate) fn last_line(line: &[u8], at: usize, rows: usize, next: usize) -> Result<Line, Fault>
     requires { is_last line.now ≡ true }
-    ensures { result ≡ last_says rows line.now at next }
+    ensures { line_said result ≡ last_says rows line.now at next }
 {
-    match decimal::read(&line[END_WORD..]) {
-        Number::Not => Line::Wrong {
-            number: BAD_LINE,
+    let Some(count) = decimal::read(&line[END_WORD..]) else {
+        return Err(Fault {
+            refusal: Refusal::BadLine,
             place: at,
-        },
-        Number::Is { value } => {
-            if rows == 0 {
-                return Line::Wrong {
-                    number: BAD_ROWS,
-                    place: at,
-                };
-            }
-            if value as usize != rows {
-                return Line::Wrong {
-                    number: BAD_COUNT,
-                    place: at,
-                };
-            }
-            Line::Last { next }
-        }
+        });
+    };
+    if rows == 0 {
+        return Err(Fault {
+            refusal: Refusal::BadRows,
+            place: at,
+        });
     }
+    if count as usize != rows {
+        return Err(Fault {
+            refusal: Refusal::BadCount,
+            place: at,
+        });
+    }
+    Ok(Line::Last { next })
 }

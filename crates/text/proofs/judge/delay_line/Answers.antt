@@ -4,7 +4,7 @@ use borrow.Author.Tests.{lt-ltb, le-ltb, le-leb, lt-leb}
 use Rattle.ground.proofs.Answers.{refused, goes_on}
 use Rattle.ground.proofs.Faults.{hit, pass, fine}
 use Rattle.link.specs.Limits.{bad_delay, bad_rows}
-use Rattle.text.specs.declared.judge.Line.TheVariants.{Wrong}
+use Rattle.text.specs.Steps.{Wrong}
 use Rattle.text.proofs.judge.delay_line.Goals as goal
 
 pub returns-then-delay-gt-MAX_DELAY : goal.returns-then-delay-gt-MAX_DELAY

@@ -8,14 +8,14 @@ slice_bounds-read-count c = last_long _ c.requires
 pub slice_bounds-read-start : goal.slice_bounds-read-start
 slice_bounds-read-start c = last_long _ c.requires
 
+pub returns-in_default : goal.returns-in_default
+returns-in_default c = last_form _ _ _ _ (c.in_default.ensures)
+
 pub returns-then-rows-eq0 : goal.returns-then-rows-eq0
-returns-then-rows-eq0 c = last_alone _ _ _ _ _ (c.in-Is.ensures) c.if-rows-eq0.true
+returns-then-rows-eq0 c = last_alone _ _ _ _ _ (c.in-Some.ensures) c.if-rows-eq0.true
 
-pub returns-then-value-rows : goal.returns-then-value-rows
-returns-then-value-rows c = last_other _ _ _ _ _ (c.in-Is.ensures) c.if-rows-eq0.false c.if-value-rows.true
+pub returns-then-count-rows : goal.returns-then-count-rows
+returns-then-count-rows c = last_other _ _ _ _ _ (c.in-Some.ensures) c.if-rows-eq0.false c.if-count-rows.true
 
-pub returns-in-Not : goal.returns-in-Not
-returns-in-Not c = last_form _ _ _ _ (c.in-Not.ensures)
-
-pub returns-else-value-rows : goal.returns-else-value-rows
-returns-else-value-rows c = last_right _ _ _ _ _ (c.in-Is.ensures) c.if-rows-eq0.false c.if-value-rows.false
+pub returns : goal.returns
+returns c = last_right _ _ _ _ _ (c.in-Some.ensures) c.if-rows-eq0.false c.if-count-rows.false

@@ -2,15 +2,11 @@
 use Rattle.text.proofs.LineForms.{pair_wrong, values_wrong, pair_right}
 use Rattle.text.proofs.judge.line_two.Goals as goal
 
-pub returns-in-Not : goal.returns-in-Not
-returns-in-Not c = pair_wrong _ _ _ (c.in-Not.ensures)
+pub returns-in_default : goal.returns-in_default
+returns-in_default c = pair_wrong _ _ _ (c.in_default.ensures)
 
-pub returns-in-Fault : goal.returns-in-Fault
-returns-in-Fault c =
-    values_wrong _ _ _ _ (c.in-Are.ensures) _ _
-    (c.in-Fault.ensures)
+pub returns-in-Err : goal.returns-in-Err
+returns-in-Err c = values_wrong _ _ _ _ (c.in-Some.ensures) _ _ (c.in-Err.ensures)
 
-pub returns-in-Fine : goal.returns-in-Fine
-returns-in-Fine c =
-    pair_right _ _ _ _ (c.in-Are.ensures)
-    (c.in-Fine.ensures)
+pub returns-in-Ok : goal.returns-in-Ok
+returns-in-Ok c = pair_right _ _ _ _ (c.in-Some.ensures) (c.in-Ok.ensures)

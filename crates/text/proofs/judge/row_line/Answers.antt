@@ -2,8 +2,8 @@
 use Rattle.text.proofs.LineForms.{row_form, row_value}
 use Rattle.text.proofs.judge.row_line.Goals as goal
 
-pub returns-in-Not : goal.returns-in-Not
-returns-in-Not c = row_form _ _ _ _ (c.in-Not.ensures)
+pub returns-in_default : goal.returns-in_default
+returns-in_default c = row_form _ _ _ _ (c.in_default.ensures)
 
-pub returns-in-Is : goal.returns-in-Is
-returns-in-Is c = row_value _ _ _ _ _ _ (c.in-Is.ensures) c.delay_line.ensures
+pub returns : goal.returns
+returns c = row_value _ _ _ _ _ _ (c.in-Some.ensures) c.delay_line.ensures

@@ -5,10 +5,10 @@ use Rattle.ground.proofs.Faults.{hit, pass, fine}
 use Rattle.text.specs.Faults.{title_faults}
 use Rattle.text.proofs.judge.title.Goals as goal
 
-pub returns-then-same : goal.returns-then-same
+pub returns-then-not-same : goal.returns-then-not-same
 unfolding title_faults
-returns-then-same c = pass _ _ _ _ (ap not (sym c.same.ensures ∙ c.if-same.true)) fine
+returns-then-not-same c = hit _ _ _ _ (ap not (sym c.same.ensures ∙ c.if-not-same.true))
 
 pub returns : goal.returns
 unfolding title_faults
-returns c = hit _ _ _ _ (ap not (sym c.same.ensures ∙ c.if-same.false))
+returns c = pass _ _ _ _ (ap not (sym c.same.ensures ∙ c.if-not-same.false)) fine

@@ -11,13 +11,11 @@ returns-then-k-line c = no_numbers _ (omega arith)
 pub slice_bounds-read-end : goal.slice_bounds-read-end
 slice_bounds-read-end c = sym (length-take-le _ _ (omega arith))
 
-pub returns-in-Not : goal.returns-in-Not
-returns-in-Not c = first_not _ _ c.seek-k.ensures.0 (c.in-Not.ensures)
+pub returns-in_err-period : goal.returns-in_err-period
+returns-in_err-period c = rw c.from_residual.ensures (first_not _ _ c.seek-k.ensures.0 (c.in_err-period.ensures))
 
-pub returns-in-Not-read : goal.returns-in-Not-read
-returns-in-Not-read c = second_not _ _ c.seek-k.ensures.0 (c.in-Not-read.ensures)
+pub returns-in_err-size : goal.returns-in_err-size
+returns-in_err-size c = rw c.from_residual-in_err-size.ensures (second_not _ _ c.seek-k.ensures.0 (c.in_err-size.ensures))
 
-pub returns-in-Is-read : goal.returns-in-Is-read
-returns-in-Is-read c =
-    both _ _ c.seek-k.ensures.0 _ _ (c.in-Is.ensures)
-    (c.in-Is-read.ensures)
+pub returns : goal.returns
+returns c = both _ _ c.seek-k.ensures.0 _ _ (c.in_ok-period.ensures) (c.in_ok-size.ensures)
