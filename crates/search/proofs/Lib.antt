@@ -1,5 +1,4 @@
 -- The laws behind the contracts of `search`, and its promises.
-pub mod Naming
 pub mod Accepted
 pub mod Blocking
 pub mod Numbers

@@ -27,7 +27,7 @@ use Rattle.search.specs.Answer.{exactly, Answers}
 use Rattle.search.specs.declared.Answer.{Answer}
 use Rattle.search.specs.declared.Answer.TheVariants.{Plan, Nothing, Spent}
 use Rattle.search.proofs.Accepted.{Accepted, good_exact, fine_exact, same_judging, named_first}
-use Rattle.search.proofs.Naming.{named_fault, fault_again}
+use Rattle.ground.proofs.Refusals.{refused, fault_again}
 use Rattle.search.proofs.Answering.{tests}
 
 -- the paper's form gives the answer back
@@ -38,7 +38,7 @@ unsaid s = back s.verdict s
     back plan s = Ok (Plan s.tests)
     back nothing s = Ok (Nothing s.tests)
     back spent s = Ok (Spent s.tests)
-    back refusal s = Err (named_fault s.number s.place)
+    back refusal s = Err (refused s.number s.place)
 
 pub again : (r : Result Answer Refused) → unsaid (said r) ≡ r
 unfolding said
@@ -99,7 +99,7 @@ module _ (k : Link) (ds : List ℕ) (budget : ℕ) (old : List ℕ) where
       judged : Told (keeping refusing old) (first (exact_faults k ds (length old))) (searched k ds budget old) (gives (said r) new)
           → Means r new
       judged (stopped n p e f) =
-          let w = named_first k ds (length old) n p e in is (Err (named_fault n p)) old (rw w f) (λ q. record { fault = rw w e; left = q })
+          let w = named_first k ds (length old) n p e in is (Err (refused n p)) old (rw w f) (λ q. record { fault = rw w e; left = q })
       judged (through e f) = ended (planned k ds) refl (good_exact k ds (length old) e) f
 
   -- and the way back, for the two verdicts of the search
@@ -154,4 +154,4 @@ some_answer k ds budget old = judged (first (exact_faults k ds (length old))) re
 
     judged : (j : Judged) → first (exact_faults k ds (length old)) ≡ j → (r : Result Answer Refused) × (said r ≡ (unless (keeping refusing old) j (searched k ds budget old)).says)
     judged Fine e = ended (planned k ds)
-    judged (Fault n p) e = (Err (named_fault n p), rw (named_first k ds (length old) n p e) refl)
+    judged (Fault n p) e = (Err (refused n p), rw (named_first k ds (length old) n p e) refl)
