@@ -2,17 +2,19 @@
 use mathlib.Core.Path.{◌≡◌, refl, sym}
 use mathlib.Core.List.{List, []}
 use Prim.Native.Nat.{ℕ, ◌≤◌, ◌<◌}
-use lib.Dec.{ltb}
+use lib.Dec.{ltb, eqb}
 use lib.ListN.{length}
-use borrow.Author.Tests.{ltb-true, ltb-false, le-ltb}
+use borrow.Author.Tests.{ltb-true, ltb-false, le-ltb, eqb-true}
 use Rattle.ground.specs.Judging.{first, and_then}
 use Rattle.ground.specs.Judging.{Fine, Fault}
-use Rattle.ground.proofs.Faults.{fine, pass, passed, front_pass, front_fine, all_numbers, number_of}
+use Rattle.ground.proofs.Faults.{fine, pass, passed, front_pass, front_fine, all_numbers, number_of as has_number}
 use Rattle.link.specs.Limits.{no_offset}
 use Rattle.link.specs.Range.{GoodTable}
 use Rattle.link.specs.Refusal.{link_faults, row_faults, room_faults, planner_faults}
 use Rattle.link.specs.declared.Link.{Link}
 use Rattle.link.proofs.Accepted.{good_room, fine_room}
+use Rattle.ground.specs.Refusals.{number_of}
+use Rattle.ground.proofs.Refusals.{refusal_of}
 use Rattle.search.specs.Limits.{max_exact_rows, too_many_rows}
 use Rattle.search.specs.Refusal.{exact_faults}
 
@@ -37,7 +39,12 @@ module _ (k : Link) (ds : List ℕ) (places : ℕ) where
   -- the judging gives no number from 13 on
   pub judged_low : (n p : ℕ) → first (exact_faults k ds places) ≡ Fault n p → n < no_offset
   unfolding exact_faults link_faults row_faults room_faults and_then all_numbers
-  judged_low n p e = ltb-true n no_offset (number_of (λ m. ltb m no_offset) (exact_faults k ds places) n p refl e)
+  judged_low n p e = ltb-true n no_offset (has_number (λ m. ltb m no_offset) (exact_faults k ds places) n p refl e)
+
+  -- and each of its numbers is a refusal's
+  pub named_first : (n p : ℕ) → first (exact_faults k ds places) ≡ Fault n p → number_of (refusal_of n) ≡ n
+  unfolding exact_faults link_faults row_faults room_faults and_then all_numbers
+  named_first n p e = eqb-true _ _ (has_number (λ m. eqb (number_of (refusal_of m)) m) (exact_faults k ds places) n p refl e)
 
 -- two lists with room are judged alike
 pub same_judging : (k : Link) (ds : List ℕ) (places places' : ℕ) → length ds ≤ places → length ds ≤ places'

@@ -12,6 +12,7 @@ use Rattle.ground.specs.Protocol.{gives}
 use Rattle.link.specs.Limits.{max_rows}
 use Rattle.link.specs.Range.{GoodTable}
 use Rattle.link.specs.Rows.{span_of, second}
+use Rattle.link.specs.declared.Circle.{Circle}
 use Rattle.link.specs.declared.Link.{Link}
 use Rattle.search.specs.Steps.{Rules, rules}
 use Rattle.search.specs.Builds.{Out, found, none, begin, planned, rules_of}
@@ -40,20 +41,21 @@ begin_starts p ts n h l =
     at zero a b = let e : 0 + get_or ts 0 0 ≡ get_or ts 0 0 = omega arith in sym (ap (λ (x : ℕ). x % p) e ∙ mod-eq_of_lt l)
     at (suc i) a b = absurd (omega (arith, get_or-replicate {A = ℕ} (max_rows - 1) i p 0 (omega arith)))
 
-module _ (k : Link) (l : ℕ) (e : l ≡ span_of k) (ds ts : List ℕ) (g : GoodTable k ds)
-    (same : (i : ℕ) → get_or ts i 0 ≡ get_or ds i 0 % k.period) where
-  pub low_delays : (i : ℕ) → get_or ts i 0 < k.period
-  low_delays i = rw (same i) (mod-lt (get_or ds i 0) g.period_low)
+module _ (k : Link) (o : Circle) (e : (o.period ≡ k.period) × (o.span ≡ span_of k)) (ds ts : List ℕ) (g : GoodTable k ds)
+    (same : (i : ℕ) → get_or ts i 0 ≡ get_or ds i 0 % o.period) where
+  pub low_delays : (i : ℕ) → get_or ts i 0 < o.period
+  low_delays i = rw (same i, e.0) (mod-lt (get_or ds i 0) g.period_low)
 
-  pub turns_table : Table k.period l ts (length ds)
+  pub turns_table : Table o.period o.span ts (length ds)
   turns_table =
-      rw e
-      (record { period = g.period_high; some_span = g.span_low; span = g.span_high; rows = g.rows_high; delays = low_delays })
+      rw (e.0, e.1)
+      (record { period = g.period_high; some_span = g.span_low; span = g.span_high; rows = g.rows_high; delays = rw e.0 at low_delays })
 
-  pub is_planned : deep (rules k.period l ts (length ds)) (length ds - 1) (begin k.period) ≡ planned k ds
+  pub is_planned : deep (rules o.period o.span ts (length ds)) (length ds - 1) (begin o.period) ≡ planned k ds
   is_planned =
-      ap (λ (r : Rules). deep r (length ds - 1) (begin k.period))
-      (rules_same k.period l ds ts same (length ds) ∙ ap (λ (x : ℕ). rules k.period x ds (length ds)) e)
+      rw (e.0, e.1)
+      (ap (λ (r : Rules). deep r (length ds - 1) (begin k.period))
+      (rules_same k.period (span_of k) ds ts (λ i. rw e.0 at (same i)) (length ds)))
       ∙ deep_least (rules_of k ds) (steps_increasing k.period (length ds)) (length ds - 1) (begin k.period)
 
 -- what the code says of the search is what the paper says

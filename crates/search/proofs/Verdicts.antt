@@ -1,9 +1,10 @@
 -- What each answer means: a plan and 14 are what the search finds within the budget, 15 has more tests than it, and a refusal has a
 -- fault. Assumes nothing.
-use mathlib.Core.Path.{◌≡◌, refl, sym, ◌∙◌}
+use mathlib.Core.Path.{◌≡◌, refl, sym, ap, ◌∙◌}
 use mathlib.Core.Bool.{Bool, true, false, cond}
 use mathlib.Core.Logic.{⊎_elim}
 use mathlib.Core.List.{List}
+use Rattle.std.specs.Prelude.{Result, Ok, Err}
 use Prim.Native.Nat.{ℕ, ◌<◌, ◌≤◌}
 use lib.Dec.{ltb}
 use lib.ListN.{length, take}
@@ -13,6 +14,8 @@ use Rattle.ground.specs.Lent.{on_front}
 use Rattle.ground.specs.Protocol.{gives, keeping, unless}
 use Rattle.ground.specs.Judging.{Judged}
 use Rattle.ground.specs.Judging.{Fine, Fault}
+use Rattle.ground.specs.declared.Fault.{Fault as Refused}
+use Rattle.ground.specs.Refusals.{fault_of}
 use Rattle.ground.proofs.Answers.{Told, stopped, through, told, goes_on, no_second_outcome}
 use Rattle.ground.proofs.Bools.{lt_or_ge}
 use Rattle.link.specs.declared.Link.{Link}
@@ -22,26 +25,27 @@ use Rattle.search.specs.Builds.{Out, found, none, planned}
 use Rattle.search.specs.Answer.{Verdict, plan, nothing, spent, refusal, Said, says, said, within, outcome, refusing, searched}
 use Rattle.search.specs.Answer.{exactly, Answers}
 use Rattle.search.specs.declared.Answer.{Answer}
-use Rattle.search.specs.declared.Answer.TheVariants.{Plan, None, Spent, Refused}
-use Rattle.search.proofs.Accepted.{Accepted, good_exact, fine_exact, same_judging}
+use Rattle.search.specs.declared.Answer.TheVariants.{Plan, Nothing, Spent}
+use Rattle.search.proofs.Accepted.{Accepted, good_exact, fine_exact, same_judging, named_first}
+use Rattle.ground.proofs.Refusals.{refused, fault_again}
 use Rattle.search.proofs.Answering.{tests}
 
 -- the paper's form gives the answer back
-abbrev pub unsaid : Said → Answer
+abbrev pub unsaid : Said → Result Answer Refused
 unsaid s = back s.verdict s
   where
-    back : Verdict → Said → Answer
-    back plan s = Plan s.tests
-    back nothing s = None s.tests
-    back spent s = Spent s.tests
-    back refusal s = Refused s.number s.place
+    back : Verdict → Said → Result Answer Refused
+    back plan s = Ok (Plan s.tests)
+    back nothing s = Ok (Nothing s.tests)
+    back spent s = Ok (Spent s.tests)
+    back refusal s = Err (refused s.number s.place)
 
-pub again : (r : Answer) → unsaid (said r) ≡ r
+pub again : (r : Result Answer Refused) → unsaid (said r) ≡ r
 unfolding said
-again (Plan t) = refl
-again (None t) = refl
-again (Spent t) = refl
-again (Refused n p) = refl
+again (Ok (Plan t)) = refl
+again (Ok (Nothing t)) = refl
+again (Ok (Spent t)) = refl
+again (Err f) = ap Err (fault_again f)
 
 module _ (k : Link) (ds : List ℕ) (budget : ℕ) (old : List ℕ) where
   pub record Planned (t : ℕ) (new : List ℕ) : Type 0 where
@@ -63,38 +67,39 @@ module _ (k : Link) (ds : List ℕ) (budget : ℕ) (old : List ℕ) where
     pub above : budget < tests (planned k ds)
     pub left : new ≡ old
 
-  pub record Faulty (n p : ℕ) (new : List ℕ) : Type 0 where
-    pub fault : first (exact_faults k ds (length old)) ≡ Fault n p
+  pub record Faulty (f : Refused) (new : List ℕ) : Type 0 where
+    pub fault : first (exact_faults k ds (length old)) ≡ fault_of f
     pub left : new ≡ old
 
-  abbrev pub Means : Answer → List ℕ → Type 0
-  Means (Plan t) new = Planned t new
-  Means (None t) new = Hopeless t new
-  Means (Spent t) new = Over t new
-  Means (Refused n p) new = Faulty n p new
+  abbrev pub Means : Result Answer Refused → List ℕ → Type 0
+  Means (Ok (Plan t)) new = Planned t new
+  Means (Ok (Nothing t)) new = Hopeless t new
+  Means (Ok (Spent t)) new = Over t new
+  Means (Err f) new = Faulty f new
 
-  pub means : (r : Answer) (new : List ℕ) → Answers k ds budget old r new → Means r new
+  pub means : (r : Result Answer Refused) (new : List ℕ) → Answers k ds budget old r new → Means r new
   unfolding said exactly outcome within
   means r new a = judged (told (keeping refusing old) (first (exact_faults k ds (length old))) a)
     where
       -- what means s means r, where both say the same
-      is : (s : Answer) (list : List ℕ) → gives (said r) new ≡ gives (said s) list → (new ≡ list → Means s new) → Means r new
+      is : (s : Result Answer Refused) (list : List ℕ) → gives (said r) new ≡ gives (said s) list → (new ≡ list → Means s new) → Means r new
       is s list e m = let q = no_second_outcome said unsaid again {r = r} {s = s} e refl in rw q.0 (m q.1)
 
       ended : (o : Out) → planned k ds ≡ o → Accepted k ds (length old) → gives (said r) new ≡ outcome budget (length ds) old o
           → Means r new
       ended (found s t) e g f =
-          ⊎_elim (λ h. is (Spent budget) old (f ∙ rw (lt-ltb budget t h)) (λ q. record { good = g; all = refl; above = rw e h; left = q }))
-          (λ h. is (Plan t) (on_front (take (length ds) s) old) (f ∙ rw (le-ltb budget t h))
+          ⊎_elim (λ h. is (Ok (Spent budget)) old (f ∙ rw (lt-ltb budget t h)) (λ q. record { good = g; all = refl; above = rw e h; left = q }))
+          (λ h. is (Ok (Plan t)) (on_front (take (length ds) s) old) (f ∙ rw (le-ltb budget t h))
           (λ q. record { good = g; offsets = s; is = e; within_budget = h; left = q })) (lt_or_ge budget t)
       ended (none t) e g f =
-          ⊎_elim (λ h. is (Spent budget) old (f ∙ rw (lt-ltb budget t h)) (λ q. record { good = g; all = refl; above = rw e h; left = q }))
-          (λ h. is (None t) old (f ∙ rw (le-ltb budget t h)) (λ q. record { good = g; is = e; within_budget = h; left = q }))
+          ⊎_elim (λ h. is (Ok (Spent budget)) old (f ∙ rw (lt-ltb budget t h)) (λ q. record { good = g; all = refl; above = rw e h; left = q }))
+          (λ h. is (Ok (Nothing t)) old (f ∙ rw (le-ltb budget t h)) (λ q. record { good = g; is = e; within_budget = h; left = q }))
           (lt_or_ge budget t)
 
       judged : Told (keeping refusing old) (first (exact_faults k ds (length old))) (searched k ds budget old) (gives (said r) new)
           → Means r new
-      judged (stopped n p e f) = is (Refused n p) old f (λ q. record { fault = e; left = q })
+      judged (stopped n p e f) =
+          let w = named_first k ds (length old) n p e in is (Err (refused n p)) old (rw w f) (λ q. record { fault = rw w e; left = q })
       judged (through e f) = ended (planned k ds) refl (good_exact k ds (length old) e) f
 
   -- and the way back, for the two verdicts of the search
@@ -103,11 +108,11 @@ module _ (k : Link) (ds : List ℕ) (budget : ℕ) (old : List ℕ) where
     fine = sym (fine_exact k ds (length old) g)
 
     pub plan_answers : (s : List ℕ) (t : ℕ) → planned k ds ≡ found s t → t ≤ budget
-        → Answers k ds budget old (Plan t) (on_front (take (length ds) s) old)
+        → Answers k ds budget old (Ok (Plan t)) (on_front (take (length ds) s) old)
     unfolding said exactly outcome within
     plan_answers s t e h = goes_on (keeping refusing old) fine (rw (e, le-ltb budget t h))
 
-    pub none_answers : (t : ℕ) → planned k ds ≡ none t → t ≤ budget → Answers k ds budget old (None t) old
+    pub none_answers : (t : ℕ) → planned k ds ≡ none t → t ≤ budget → Answers k ds budget old (Ok (Nothing t)) old
     unfolding said exactly outcome within
     none_answers t e h = goes_on (keeping refusing old) fine (rw (e, le-ltb budget t h))
 
@@ -139,14 +144,14 @@ says_same k ds budget old old' room room' =
     go (Fault n p) = refl
 
 -- there is an answer to every call
-pub some_answer : (k : Link) (ds : List ℕ) (budget : ℕ) (old : List ℕ) → (r : Answer) × (said r ≡ (exactly k ds budget old).says)
+pub some_answer : (k : Link) (ds : List ℕ) (budget : ℕ) (old : List ℕ) → (r : Result Answer Refused) × (said r ≡ (exactly k ds budget old).says)
 unfolding said exactly outcome within
-some_answer k ds budget old = judged (first (exact_faults k ds (length old)))
+some_answer k ds budget old = judged (first (exact_faults k ds (length old))) refl
   where
-    ended : (o : Out) → (r : Answer) × (said r ≡ (outcome budget (length ds) old o).says)
-    ended (found s t) = ⊎_elim (λ h. (Spent budget, rw (lt-ltb budget t h))) (λ h. (Plan t, rw (le-ltb budget t h))) (lt_or_ge budget t)
-    ended (none t) = ⊎_elim (λ h. (Spent budget, rw (lt-ltb budget t h))) (λ h. (None t, rw (le-ltb budget t h))) (lt_or_ge budget t)
+    ended : (o : Out) → (r : Result Answer Refused) × (said r ≡ (outcome budget (length ds) old o).says)
+    ended (found s t) = ⊎_elim (λ h. (Ok (Spent budget), rw (lt-ltb budget t h))) (λ h. (Ok (Plan t), rw (le-ltb budget t h))) (lt_or_ge budget t)
+    ended (none t) = ⊎_elim (λ h. (Ok (Spent budget), rw (lt-ltb budget t h))) (λ h. (Ok (Nothing t), rw (le-ltb budget t h))) (lt_or_ge budget t)
 
-    judged : (j : Judged) → (r : Answer) × (said r ≡ (unless (keeping refusing old) j (searched k ds budget old)).says)
-    judged Fine = ended (planned k ds)
-    judged (Fault n p) = (Refused n p, refl)
+    judged : (j : Judged) → first (exact_faults k ds (length old)) ≡ j → (r : Result Answer Refused) × (said r ≡ (unless (keeping refusing old) j (searched k ds budget old)).says)
+    judged Fine e = ended (planned k ds)
+    judged (Fault n p) e = (Err (refused n p), rw (named_first k ds (length old) n p e) refl)

@@ -1,7 +1,9 @@
 -- What the exact planner answers, and what it leaves in the lent list.
-use Rattle.std.specs.Prelude.{◌≡◌, cond, List, [], ◌∷◌, ℕ, ◌<◌, ltb, length, get_or, take}
+use Rattle.std.specs.Prelude.{◌≡◌, cond, List, [], ◌∷◌, ℕ, ◌<◌, ltb, length, get_or, take, Result, Ok, Err}
 use Rattle.ground.specs.Judging.{first}
 use Rattle.ground.specs.Lent.{on_front}
+use Rattle.ground.specs.Refusals.{number_of}
+use Rattle.ground.specs.declared.Fault.{Fault}
 use Rattle.ground.specs.Protocol.{Outcome, gives, keeping, unless}
 use Rattle.link.specs.Rows.{span_of, Clear}
 use Rattle.link.specs.declared.Link.{Link}
@@ -9,7 +11,7 @@ use Rattle.search.specs.Limits.{no_build, budget_spent}
 use Rattle.search.specs.Refusal.{exact_faults}
 use Rattle.search.specs.Builds.{Out, found, none, planned}
 use Rattle.search.specs.declared.Answer.{Answer}
-use Rattle.search.specs.declared.Answer.TheVariants.{Plan, None, Spent, Refused}
+use Rattle.search.specs.declared.Answer.TheVariants.{Plan, Nothing, Spent}
 
 pub data Verdict : Type 0 where
   plan nothing spent refusal : Verdict
@@ -24,11 +26,14 @@ pub record Said : Type 0 where
 abbrev pub says : Verdict → ℕ → ℕ → ℕ → Said
 says v n p t = record { verdict = v; number = n; place = p; tests = t }
 
-unfoldable pub said : Answer → Said
-said (Plan t) = says plan 0 0 t
-said (None t) = says nothing no_build 0 t
-said (Spent t) = says spent budget_spent 0 t
-said (Refused n p) = says refusal n p 0
+abbrev pub tells : Answer → Said
+tells (Plan t) = says plan 0 0 t
+tells (Nothing t) = says nothing no_build 0 t
+tells (Spent t) = says spent budget_spent 0 t
+
+unfoldable pub said : Result Answer Fault → Said
+said (Ok a) = tells a
+said (Err f) = says refusal (number_of f.refusal) f.place 0
 
 -- "If this number is above the budget, the answer is 15 with tests equal to the budget; otherwise tests is that number."
 unfoldable pub within : ℕ → ℕ → List ℕ → Outcome Said (List ℕ) → Outcome Said (List ℕ)
@@ -51,7 +56,7 @@ unfoldable pub exactly : Link → List ℕ → ℕ → List ℕ → Outcome Said
 exactly k ds budget old = unless (keeping refusing old) (first (exact_faults k ds (length old))) (searched k ds budget old)
 
 -- the contract: on the link k, the table ds gets the answer r at this budget, and the lent list, which was `old`, is left as `new`
-abbrev pub Answers : Link → List ℕ → ℕ → List ℕ → Answer → List ℕ → Type 0
+abbrev pub Answers : Link → List ℕ → ℕ → List ℕ → Result Answer Fault → List ℕ → Type 0
 Answers k ds budget old r new = gives (said r) new ≡ exactly k ds budget old
 
 -- "all offsets 0 to P-1 for all rows": a choice of them that is clear
@@ -67,15 +72,15 @@ pub data Fewer : List ℕ → List ℕ → Type 0 where
   take_out : {y : ℕ} {xs ys : List ℕ} → Fewer xs ys → Fewer xs (y ∷ ys)
 
 -- the two verdicts that a larger budget keeps
-abbrev pub Decided : Answer → Type 0
-Decided (Plan t) = Unit {0}
-Decided (None t) = Unit {0}
-Decided (Spent t) = ⊥
-Decided (Refused n p) = ⊥
+abbrev pub Decided : Result Answer Fault → Type 0
+Decided (Ok (Plan t)) = Unit {0}
+Decided (Ok (Nothing t)) = Unit {0}
+Decided (Ok (Spent t)) = ⊥
+Decided (Err f) = ⊥
 
 -- the offsets that an answer for n rows gives, of the list `new` that it leaves: those of a plan
-abbrev pub given : Answer → ℕ → List ℕ → List ℕ
-given (Plan t) n new = take n new
-given (None t) n new = []
-given (Spent t) n new = []
-given (Refused m p) n new = []
+abbrev pub given : Result Answer Fault → ℕ → List ℕ → List ℕ
+given (Ok (Plan t)) n new = take n new
+given (Ok (Nothing t)) n new = []
+given (Ok (Spent t)) n new = []
+given (Err f) n new = []

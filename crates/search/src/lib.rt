@@ -5,56 +5,50 @@ pub mod limits;
 
 ghost use Rattle.std.specs.Prelude.{◌≡◌, true, ℕ, ◌<◌, ◌≤◌, ◌*◌, ◌%◌, length, get_or};
 ghost use Rattle.ground.specs.Judging.{first};
+ghost use Rattle.ground.specs.Refusals.{judged};
 ghost use Rattle.ground.specs.Protocol.{gives};
 ghost use Rattle.link.specs.Limits.{max_rows};
 ghost use Rattle.link.specs.Range.{GoodTable};
 ghost use Rattle.search.specs.Refusal.{exact_faults};
 ghost use Rattle.search.specs.Steps.{puts, is_step};
 ghost use Rattle.search.specs.Ceilings.{ceiling_up_to};
-ghost use Rattle.search.specs.Answer.{said, searched, exactly};
+ghost use Rattle.search.specs.Answer.{said, tells, searched, exactly};
 ghost use Rattle.search.specs.Numbering.{step_at, Next};
 ghost use Rattle.search.specs.Search.{Table, Starts, Tried, Descended, blocked, unblocked};
 
-use crate::limits::{MAX_EXACT_ROWS, TOO_MANY_ROWS};
-use ground::Judged;
-use link::Link;
+use crate::limits::MAX_EXACT_ROWS;
+use ground::{Fault, Refusal};
 use link::limits::MAX_ROWS;
+use link::{Circle, Link};
 
-// A plan, no whole build, a budget that was not enough (each with its tests), or a refusal.
-#[derive(Clone, Copy)]
+// A plan, no whole build, or a budget that was not enough, each with its tests.
+#[derive(Clone, Copy, Debug, PartialEq, Eq)]
 pub enum Answer {
     Plan { tests: u64 },
-    None { tests: u64 },
+    Nothing { tests: u64 },
     Spent { tests: u64 },
-    Refused { number: u32, place: usize },
 }
 
 // The offsets of the least whole build. 5, 6, 8, 7, 11, 12, then 15, 14 or a plan.
-pub fn exact(link: Link, delays: &[u32], budget: u64, offsets: &mut [u32]) -> Answer
+pub fn exact(link: Link, delays: &[u32], budget: u64, offsets: &mut [u32]) -> Result<Answer, Fault>
     ensures { gives (said result) offsets.new ≡ exactly link delays.now budget offsets.old }
 {
-    match judge(link, delays, offsets.len()) {
-        Judged::Fault { number, place } => Answer::Refused { number, place },
-        Judged::Fine => plan(link, delays, budget, offsets),
-    }
+    judge(link, delays, offsets.len())?;
+    Ok(plan(link, delays, budget, offsets))
 }
 
 // A planner's table and lent list, and few enough rows: 5, 6, 8, 7, 11, 12.
-fn judge(link: Link, delays: &[u32], room: usize) -> Judged
-    ensures { result ≡ first (exact_faults link delays.now room) }
+fn judge(link: Link, delays: &[u32], room: usize) -> Result<(), Fault>
+    ensures { judged result ≡ first (exact_faults link delays.now room) }
 {
-    match link::judge::planner(link, delays, room) {
-        Judged::Fault { number, place } => Judged::Fault { number, place },
-        Judged::Fine => {
-            if delays.len() > MAX_EXACT_ROWS {
-                return Judged::Fault {
-                    number: TOO_MANY_ROWS,
-                    place: 0,
-                };
-            }
-            Judged::Fine
-        }
+    link::judge::planner(link, delays, room)?;
+    if delays.len() > MAX_EXACT_ROWS {
+        return Err(Fault {
+            refusal: Refusal::TooManyRows,
+            place: 0,
+        });
     }
+    Ok(())
 }
 
 const CEILINGS: [u64; 9] = [0, 0, 2, 20, 342, 10472, 509930, 36086652, 3493657790];
@@ -86,19 +80,17 @@ const ROW: usize = 2 * MAX_ROWS;
 // The answer for values in range: the search starts with row 0 at offset 0 and no other row placed.
 fn plan(link: Link, delays: &[u32], budget: u64, offsets: &mut [u32]) -> Answer
     requires { GoodTable link delays.now × (length delays.now ≤ length offsets.old) }
-    ensures { gives (said result) offsets.new ≡ searched link delays.now budget offsets.old }
+    ensures { gives (tells result) offsets.new ≡ searched link delays.now budget offsets.old }
 {
-    let p = link.period;
-    let l = link::span(link);
+    let circle = link.circle();
     let rows = delays.len();
-    let turns = reduced(p, delays);
-    let mut firsts = [p; MAX_ROWS];
+    let turns = reduced(circle.period, delays);
+    let mut firsts = [circle.period; MAX_ROWS];
     let mut seconds = [0u32; MAX_ROWS];
     firsts[0] = 0;
     seconds[0] = turns[0];
     match descend(
-        p,
-        l,
+        circle,
         &turns,
         &mut firsts,
         &mut seconds,
@@ -112,7 +104,7 @@ fn plan(link: Link, delays: &[u32], budget: u64, offsets: &mut [u32]) -> Answer
                 tests: budget - left,
             }
         }
-        Hunt::Nothing(left) => Answer::None {
+        Hunt::Nothing(left) => Answer::Nothing {
             tests: budget - left,
         },
         Hunt::Spent => Answer::Spent { tests: budget },
@@ -134,26 +126,26 @@ fn reduced(p: u32, delays: &[u32]) -> Rows
 }
 
 // Whether a row with the starts x and y is placed and meets a row with the starts a and b.
-fn meets(p: u32, l: u32, a: u32, b: u32, x: u32, y: u32) -> bool
-    ensures { result ≡ blocked p l a b x y }
+fn meets(circle: Circle, a: u32, b: u32, x: u32, y: u32) -> bool
+    ensures { result ≡ blocked circle.period circle.span a b x y }
 {
-    if p <= x {
+    if circle.period <= x {
         return false;
     }
-    if !link::apart(p, l, x, a) {
+    if !circle.apart(x, a) {
         return true;
     }
-    !link::apart(p, l, y, b)
+    !circle.apart(y, b)
 }
 
 // Whether a row with the starts a and b meets no placed row.
-fn is_free(p: u32, l: u32, firsts: &Rows, seconds: &Rows, rows: usize, a: u32, b: u32) -> bool
+fn is_free(circle: Circle, firsts: &Rows, seconds: &Rows, rows: usize, a: u32, b: u32) -> bool
     requires { rows ≤ max_rows }
-    ensures { result ≡ unblocked p l firsts.now seconds.now rows a b }
+    ensures { result ≡ unblocked circle.period circle.span firsts.now seconds.now rows a b }
 {
     let mut i: usize = 0;
     while i < rows {
-        if meets(p, l, a, b, firsts[i], seconds[i]) {
+        if meets(circle, a, b, firsts[i], seconds[i]) {
             return false;
         }
         i += 1;
@@ -188,30 +180,31 @@ fn next_step(p: u32, firsts: &Rows, rows: usize, from: usize) -> usize
 
 // Where a step puts its row.
 fn offset(
-    p: u32,
-    l: u32,
+    circle: Circle,
     delays: &Rows,
     firsts: &Rows,
     seconds: &Rows,
     rows: usize,
     k: usize,
 ) -> u32
-    requires { Table p l delays.now rows × Starts p delays.now rows firsts.now seconds.now
-        × (is_step p rows firsts.now (step_at k) ≡ true) }
-    ensures { (result ≡ puts p l delays.now firsts.now (step_at k)) × (result < p) }
+    requires { Table circle.period circle.span delays.now rows × Starts circle.period delays.now rows firsts.now seconds.now
+        × (is_step circle.period rows firsts.now (step_at k) ≡ true) }
+    ensures { (result ≡ puts circle.period circle.span delays.now firsts.now (step_at k)) × (result < circle.period) }
 {
     let i = k / 2 % MAX_ROWS;
     if k % 2 == 0 {
-        return link::turn(p, firsts[i], l);
+        return circle.turn(firsts[i], circle.span);
     }
-    link::turn(p, link::turn(p, seconds[i], l), p - delays[k / ROW])
+    circle.turn(
+        circle.turn(seconds[i], circle.span),
+        circle.period - delays[k / ROW],
+    )
 }
 
 // Tries the step k, which is one test: where it is good, the rows that are then left are placed.
 #[cycle(descend_try_step)]
 fn try_step(
-    p: u32,
-    l: u32,
+    circle: Circle,
     delays: &Rows,
     firsts: &mut Rows,
     seconds: &mut Rows,
@@ -220,22 +213,22 @@ fn try_step(
     k: usize,
     left: u64,
 ) -> Hunt
-    requires { Table p l delays.now rows × Starts p delays.now rows firsts.old seconds.old
-        × (k < rows * (2 * max_rows)) × (is_step p rows firsts.old (step_at k) ≡ true) × (0 < left) }
-    ensures tried { Tried p l delays.now rows unplaced k left firsts.old result firsts.new }
-    ensures starts { Starts p delays.now rows firsts.new seconds.new }
+    requires { Table circle.period circle.span delays.now rows × Starts circle.period delays.now rows firsts.old seconds.old
+        × (k < rows * (2 * max_rows)) × (is_step circle.period rows firsts.old (step_at k) ≡ true) × (0 < left) }
+    ensures tried { Tried circle.period circle.span delays.now rows unplaced k left firsts.old result firsts.new }
+    ensures starts { Starts circle.period delays.now rows firsts.new seconds.new }
 {
     let rest = left - 1;
     let j = k / ROW;
-    let a = offset(p, l, delays, firsts, seconds, rows, k);
-    let b = link::turn(p, a, delays[j]);
-    if !is_free(p, l, firsts, seconds, rows, a, b) {
+    let a = offset(circle, delays, firsts, seconds, rows, k);
+    let b = circle.turn(a, delays[j]);
+    if !is_free(circle, firsts, seconds, rows, a, b) {
         return Hunt::Nothing(rest);
     }
     let old = firsts[j];
     firsts[j] = a;
     seconds[j] = b;
-    let deeper = descend(p, l, delays, firsts, seconds, rows, unplaced, rest);
+    let deeper = descend(circle, delays, firsts, seconds, rows, unplaced, rest);
     match deeper {
         Hunt::Found(left) => Hunt::Found(left),
         Hunt::Nothing(left) => {
@@ -252,8 +245,7 @@ fn try_step(
 // Places the rows that are left, `unplaced` of them.
 #[cycle(descend_try_step)]
 fn descend(
-    p: u32,
-    l: u32,
+    circle: Circle,
     delays: &Rows,
     firsts: &mut Rows,
     seconds: &mut Rows,
@@ -261,21 +253,21 @@ fn descend(
     unplaced: usize,
     budget: u64,
 ) -> Hunt
-    requires { Table p l delays.now rows × Starts p delays.now rows firsts.old seconds.old }
-    ensures descended { Descended p l delays.now rows unplaced budget firsts.old result firsts.new }
-    ensures starts { Starts p delays.now rows firsts.new seconds.new }
+    requires { Table circle.period circle.span delays.now rows × Starts circle.period delays.now rows firsts.old seconds.old }
+    ensures descended { Descended circle.period circle.span delays.now rows unplaced budget firsts.old result firsts.new }
+    ensures starts { Starts circle.period delays.now rows firsts.new seconds.new }
 {
     if unplaced == 0 {
         return Hunt::Found(budget);
     }
     let end = rows * ROW;
     let mut left = budget;
-    let mut k = next_step(p, firsts, rows, 0);
+    let mut k = next_step(circle.period, firsts, rows, 0);
     while k < end {
         if left == 0 {
             return Hunt::Spent;
         }
-        let deeper = try_step(p, l, delays, firsts, seconds, rows, unplaced - 1, k, left);
+        let deeper = try_step(circle, delays, firsts, seconds, rows, unplaced - 1, k, left);
         match deeper {
             Hunt::Found(rest) => {
                 return Hunt::Found(rest);
@@ -285,7 +277,7 @@ fn descend(
             }
             Hunt::Nothing(rest) => {
                 left = rest;
-                k = next_step(p, firsts, rows, k + 1);
+                k = next_step(circle.period, firsts, rows, k + 1);
             }
         }
     }

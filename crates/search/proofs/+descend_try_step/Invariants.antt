@@ -16,7 +16,7 @@ abbrev pub decreases-try_step : goal.decreases-try_step
 decreases-try_step l = l.unplaced * (candidates + 1) + (candidates - l.k)
 
 abbrev pub invariant-descend-loop-k : goal.invariant-descend-loop-k
-invariant-descend-loop-k l = Going l.p l.l l.delays l.rows l.unplaced l.budget l.fn.firsts l.firsts l.seconds l.left l.k
+invariant-descend-loop-k l = Going l.circle.period l.circle.span l.delays l.rows l.unplaced l.budget l.fn.firsts l.firsts l.seconds l.left l.k
 
 abbrev pub decreases-descend-loop-k : goal.decreases-descend-loop-k
 decreases-descend-loop-k l = l.rows * (2 * max_rows) - l.k

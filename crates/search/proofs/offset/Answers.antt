@@ -22,7 +22,7 @@ turn-requires-2 c =
     let t = c.requires.0 in
     let w = names_at _ _ _ c.args.k c.requires.2 in
     let q = c.requires.1.seconds (c.args.k / 2 % max_rows) w.beside_low w.beside_placed in
-    let h = second_low c.args.p (get_or c.args.delays.now (c.args.k / 2 % max_rows) 0)
+    let h = second_low c.args.circle.period (get_or c.args.delays.now (c.args.k / 2 % max_rows) 0)
     (get_or c.args.firsts.now (c.args.k / 2 % max_rows) 0) (omega (arith, t)) in
     omega (arith, t)
 
@@ -32,8 +32,8 @@ bounds-delays-k c =
     let w = (names_at _ _ _ c.args.k c.requires.2).row_low in
     omega (arith, t)
 
-pub overflow_sub-p : goal.overflow_sub-p
-overflow_sub-p c = omega (arith, c.requires.0.delays (c.args.k / (2 * max_rows)))
+pub overflow_sub-circle : goal.overflow_sub-circle
+overflow_sub-circle c = omega (arith, c.requires.0.delays (c.args.k / (2 * max_rows)))
 
 pub returns : goal.returns
 returns c =

@@ -12,9 +12,9 @@ use Rattle.search.proofs.plan.Goals as goal
 
 pub descend-requires : goal.descend-requires
 descend-requires c = (
-  turns_table _ _ c.span-l.ensures _ c.reduced-turns.result c.requires.0 c.reduced-turns.ensures,
+  turns_table _ _ c.circle-circle.ensures _ c.reduced-turns.result c.requires.0 c.reduced-turns.ensures,
   begin_starts _ _ _ c.requires.0.rows_high
-      (low_delays _ _ c.span-l.ensures _ c.reduced-turns.result c.requires.0 c.reduced-turns.ensures 0),
+      (low_delays _ _ c.circle-circle.ensures _ c.reduced-turns.result c.requires.0 c.reduced-turns.ensures 0),
 )
 
 pub slice_bounds-copy_out-end : goal.slice_bounds-copy_out-end
@@ -34,16 +34,16 @@ unfolding said
 returns-in-Found c =
     ap (gives _) c.copy_out.ensures
     ∙ found_outcome _ _ _ _ _ _ _ (told_as c.in-Found.is c.descend.ensures.descended)
-    ∙ ap (outcome _ _ _) (is_planned _ _ c.span-l.ensures _ _ c.requires.0 c.reduced-turns.ensures)
+    ∙ ap (outcome _ _ _) (is_planned _ _ c.circle-circle.ensures _ _ c.requires.0 c.reduced-turns.ensures)
 
 pub returns-in-Nothing : goal.returns-in-Nothing
 unfolding said
 returns-in-Nothing c =
     nothing_outcome _ _ _ _ _ _ _ (told_as c.in-Nothing.is c.descend.ensures.descended)
-    ∙ ap (outcome _ _ _) (is_planned _ _ c.span-l.ensures _ _ c.requires.0 c.reduced-turns.ensures)
+    ∙ ap (outcome _ _ _) (is_planned _ _ c.circle-circle.ensures _ _ c.requires.0 c.reduced-turns.ensures)
 
 pub returns-in-Spent : goal.returns-in-Spent
 unfolding said
 returns-in-Spent c =
     spent_outcome _ _ _ _ _ _ (told_as c.in-Spent.is c.descend.ensures.descended)
-    ∙ ap (outcome _ _ _) (is_planned _ _ c.span-l.ensures _ _ c.requires.0 c.reduced-turns.ensures)
+    ∙ ap (outcome _ _ _) (is_planned _ _ c.circle-circle.ensures _ _ c.requires.0 c.reduced-turns.ensures)
