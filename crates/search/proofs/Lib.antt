@@ -1,4 +1,5 @@
 -- The laws behind the contracts of `search`, and its promises.
+pub mod Boards
 pub mod Accepted
 pub mod Blocking
 pub mod Numbers

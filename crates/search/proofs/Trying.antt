@@ -45,16 +45,16 @@ module _ {p : ℕ} {ds : List ℕ} {n : ℕ} (few : n ≤ max_rows) {xs ys : Lis
           rw (x, get_or-set_other ys j i b 0 o) (st.seconds i h (rw x at q))
 
   -- where j was not placed, the other rows' second starts are still right without it
-  pub starts_put_back : (a : ℕ) {xs' ys' : List ℕ} → p ≤ get_or xs j 0 → xs' ≡ set xs j a → Starts p ds n xs' ys'
-      → Starts p ds n (set xs' j (get_or xs j 0)) ys'
-  starts_put_back a {xs'} {ys'} f e new =
+  pub starts_put_back : (a b : ℕ) {xs' ys' : List ℕ} → p ≤ get_or xs j 0 → xs' ≡ set xs j a → Starts p ds n xs' ys'
+      → Starts p ds n (set xs' j (get_or xs j 0)) (set ys' j b)
+  starts_put_back a b {xs'} {ys'} f e new =
       rw (put_back xs xs' j a e)
       (record {
         xs_length = st.xs_length;
-        ys_length = new.ys_length;
+        ys_length = length-set ys' j b ∙ new.ys_length;
         seconds = λ i h q.
             let x : get_or xs' i 0 ≡ get_or xs i 0 = ap (λ (z : List ℕ). get_or z i 0) e ∙ get_or-set_other xs j i a 0 (apart i q) in
-            new.seconds i h (rw x q) ∙ ap (second p (get_or ds i 0)) x;
+            get_or-set_other ys' j i b 0 (apart i q) ∙ new.seconds i h (rw x q) ∙ ap (second p (get_or ds i 0)) x;
       })
     where
       apart : (i : ℕ) → get_or xs i 0 < p → i ≡ j → ⊥
@@ -88,28 +88,30 @@ module _ {p l : ℕ} {ds : List ℕ} {n : ℕ} (t : Table p l ds n) {s ys : List
       abbrev again : List ℕ
       again = set s' (row_of k) (get_or s (row_of k) 0)
 
-      row_again : s' ≡ set s (row_of k) a → Starts p ds n (set s' (row_of k) (get_or s (row_of k) 0)) ys'
-      row_again q = let w = names_at p n s k is in starts_put_back t.rows st w.row_low a w.row_free q new
+      row_again : (y : ℕ) → s' ≡ set s (row_of k) a → Starts p ds n (set s' (row_of k) (get_or s (row_of k) 0)) (set ys' (row_of k) y)
+      row_again y q = let w = names_at p n s k is in starts_put_back t.rows st w.row_low a y w.row_free q new
 
       pub finds : {m : ℕ} → Answered (left - 1) there (d there) (Found m) s'
           → Answered left s (more 1 (tried (rules p l ds n) d s (step_at k))) (Found m) s'
       finds {m} w = one_more (Found m) s' (rw (← goes_deeper e) (found_from (left - 1) there s s' (d there) m w))
 
-      pub in_vain : {m : ℕ} → Answered (left - 1) there (d there) (Nothing m) s'
-          → Answered left s (more 1 (tried (rules p l ds n) d s (step_at k))) (Nothing m) again × Starts p ds n again ys'
-      in_vain {m} w =
+      pub in_vain : {m : ℕ} (y : ℕ) → Answered (left - 1) there (d there) (Nothing m) s'
+          → Answered left s (more 1 (tried (rules p l ds n) d s (step_at k))) (Nothing m) again
+          × Starts p ds n again (set ys' (row_of k) y)
+      in_vain {m} y w =
           let q = (ends (left - 1) there s' _ (Nothing m) w).same in
-          (one_more (Nothing m) again (nothing_again m w q), row_again q)
+          (one_more (Nothing m) again (nothing_again m w q), row_again y q)
         where
           nothing_again : (m : ℕ) → Answered (left - 1) there (d there) (Nothing m) s' → s' ≡ there
               → Answered (left - 1) s (tried (rules p l ds n) d s (step_at k)) (Nothing m) again
           nothing_again m w q = rw (← goes_deeper e, put_back s s' (row_of k) a q) (nothing_from (left - 1) there s s' (d there) m w)
 
-      pub runs_out : Answered (left - 1) there (d there) Spent s'
-          → Answered left s (more 1 (tried (rules p l ds n) d s (step_at k))) Spent again × Starts p ds n again ys'
-      runs_out w =
+      pub runs_out : (y : ℕ) → Answered (left - 1) there (d there) Spent s'
+          → Answered left s (more 1 (tried (rules p l ds n) d s (step_at k))) Spent again
+          × Starts p ds n again (set ys' (row_of k) y)
+      runs_out y w =
           let q = (ends (left - 1) there s' _ Spent w).same in
-          (one_more Spent again (spent_again w q), row_again q)
+          (one_more Spent again (spent_again w q), row_again y q)
         where
           spent_again : Answered (left - 1) there (d there) Spent s' → s' ≡ there
               → Answered (left - 1) s (tried (rules p l ds n) d s (step_at k)) Spent again

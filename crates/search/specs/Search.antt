@@ -7,6 +7,9 @@ use Rattle.link.specs.Rows.{second}
 use Rattle.search.specs.Numbering.{step_at}
 use Rattle.search.specs.Steps.{Step, Rules, rules}
 use Rattle.search.specs.Builds.{Out, found, none}
+use Rattle.link.specs.Starts.{firsts, seconds}
+use Rattle.link.specs.declared.Start.{Start}
+use Rattle.search.specs.declared.Rows.{Rows}
 use Rattle.search.specs.declared.Hunt.{Hunt}
 use Rattle.search.specs.declared.Hunt.TheVariants.{Found, Nothing, Spent}
 
@@ -46,13 +49,6 @@ pub record Answered (left : ℕ) (s : List ℕ) (o : Out) (h : Hunt) (s' : List 
   pub told : h ≡ verdict left o
   pub kept : s' ≡ leaves left s o
 
--- placing the u rows that are left, and trying the step that the number k stands for
-abbrev pub Descended : ℕ → ℕ → List ℕ → ℕ → ℕ → ℕ → List ℕ → Hunt → List ℕ → Type 0
-Descended p l ds n u left s h s' = Answered left s (deep (rules p l ds n) u s) h s'
-
-abbrev pub Tried : ℕ → ℕ → List ℕ → ℕ → ℕ → ℕ → ℕ → List ℕ → Hunt → List ℕ → Type 0
-Tried p l ds n u k left s h s' = Answered left s (more 1 (tried (rules p l ds n) (deep (rules p l ds n) u) s (step_at k))) h s'
-
 -- a table that may be searched: n rows, with delays below the period
 pub record Table (p l : ℕ) (ds : List ℕ) (n : ℕ) : Type 0 where
   pub period : p ≤ max_period
@@ -66,6 +62,24 @@ pub record Starts (p : ℕ) (ds : List ℕ) (n : ℕ) (xs ys : List ℕ) : Type 
   pub xs_length : length xs ≡ max_rows
   pub ys_length : length ys ≡ max_rows
   pub seconds : (i : ℕ) → i < n → get_or xs i 0 < p → get_or ys i 0 ≡ second p (get_or ds i 0) (get_or xs i 0)
+
+-- the same of the rows that the code searches, and of the starts that it has
+abbrev pub Searchable : Rows → Type 0
+Searchable r = Table r.circle.period r.circle.span r.delays r.count
+
+abbrev pub Stands : Rows → List Start → Type 0
+Stands r ss = Starts r.circle.period r.delays r.count (firsts ss) (seconds ss)
+
+abbrev pub rules_by : Rows → Rules
+rules_by r = rules r.circle.period r.circle.span r.delays r.count
+
+-- placing the u rows that are left, and trying the step that the number k stands for
+abbrev pub Descended : Rows → ℕ → ℕ → List Start → Hunt → List Start → Type 0
+Descended r u left ss h ss' = Answered left (firsts ss) (deep (rules_by r) u (firsts ss)) h (firsts ss')
+
+abbrev pub Tried : Rows → ℕ → ℕ → ℕ → List Start → Hunt → List Start → Type 0
+Tried r u k left ss h ss' =
+    Answered left (firsts ss) (more 1 (tried (rules_by r) (deep (rules_by r) u) (firsts ss) (step_at k))) h (firsts ss')
 
 -- a row with the starts x and y, if it is placed, is nearer to a row with the starts a and b than l
 unfoldable pub blocked : ℕ → ℕ → ℕ → ℕ → ℕ → ℕ → Bool

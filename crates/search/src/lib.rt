@@ -9,17 +9,18 @@ ghost use Rattle.ground.specs.Refusals.{judged};
 ghost use Rattle.ground.specs.Protocol.{gives};
 ghost use Rattle.link.specs.Limits.{max_rows};
 ghost use Rattle.link.specs.Range.{GoodTable};
+ghost use Rattle.link.specs.Starts.{firsts, seconds};
 ghost use Rattle.search.specs.Refusal.{exact_faults};
 ghost use Rattle.search.specs.Steps.{puts, is_step};
 ghost use Rattle.search.specs.Ceilings.{ceiling_up_to};
 ghost use Rattle.search.specs.Answer.{said, tells, searched, exactly};
 ghost use Rattle.search.specs.Numbering.{step_at, Next};
-ghost use Rattle.search.specs.Search.{Table, Starts, Tried, Descended, blocked, unblocked};
+ghost use Rattle.search.specs.Search.{Searchable, Stands, Tried, Descended, blocked, unblocked};
 
 use crate::limits::MAX_EXACT_ROWS;
 use ground::{Fault, Refusal};
 use link::limits::MAX_ROWS;
-use link::{Circle, Link};
+use link::{Circle, Link, Start};
 
 // A plan, no whole build, or a budget that was not enough, each with its tests.
 #[derive(Clone, Copy, Debug, PartialEq, Eq)]
@@ -63,10 +64,18 @@ pub fn ceiling(rows: usize) -> u64
     CEILINGS[rows]
 }
 
-// A number for each row. A row that is not placed has a first start at or above the period.
-type Rows = [u32; MAX_ROWS];
+// Where each row starts. A row that is not placed has a first start at or above the period.
+type Board = [Start; MAX_ROWS];
 
-// How a search ended, with the tests that are left.
+// The rows of a search: their circle, their delays within its period, and how many they are.
+#[derive(Drop)]
+struct Rows {
+    circle: Circle,
+    delays: [u32; MAX_ROWS],
+    count: usize,
+}
+
+// How a search ended, with the tests that are left. Three ways, so no `Option` or `Result`.
 #[derive(Drop)]
 enum Hunt {
     Found(u64),
@@ -83,23 +92,22 @@ fn plan(link: Link, delays: &[u32], budget: u64, offsets: &mut [u32]) -> Answer
     ensures { gives (tells result) offsets.new ≡ searched link delays.now budget offsets.old }
 {
     let circle = link.circle();
-    let rows = delays.len();
-    let turns = reduced(circle.period, delays);
-    let mut firsts = [circle.period; MAX_ROWS];
-    let mut seconds = [0u32; MAX_ROWS];
-    firsts[0] = 0;
-    seconds[0] = turns[0];
-    match descend(
+    let rows = Rows {
         circle,
-        &turns,
-        &mut firsts,
-        &mut seconds,
-        rows,
-        rows - 1,
-        budget,
-    ) {
+        delays: reduced(circle.period, delays),
+        count: delays.len(),
+    };
+    let mut board = [Start {
+        first: circle.period,
+        second: 0,
+    }; MAX_ROWS];
+    board[0] = Start {
+        first: 0,
+        second: rows.delays[0],
+    };
+    match rows.descend(&mut board, delays.len() - 1, budget) {
         Hunt::Found(left) => {
-            ground::copy_out(&firsts[..rows], offsets);
+            link::copy_offsets(&board[..delays.len()], offsets);
             Answer::Plan {
                 tests: budget - left,
             }
@@ -112,174 +120,150 @@ fn plan(link: Link, delays: &[u32], budget: u64, offsets: &mut [u32]) -> Answer
 }
 
 // The delays within the period.
-fn reduced(p: u32, delays: &[u32]) -> Rows
-    requires { (0 < p) × (length delays.now ≤ max_rows) }
-    ensures { (i : ℕ) → get_or result i 0 ≡ get_or delays.now i 0 % p }
+fn reduced(period: u32, delays: &[u32]) -> [u32; MAX_ROWS]
+    requires { (0 < period) × (length delays.now ≤ max_rows) }
+    ensures { (i : ℕ) → get_or result i 0 ≡ get_or delays.now i 0 % period }
 {
-    let mut turns = [0u32; MAX_ROWS];
-    let mut i: usize = 0;
-    while i < delays.len() {
-        turns[i] = delays[i] % p;
-        i += 1;
+    let mut turns = [0; MAX_ROWS];
+    for (row, delay) in delays.iter().enumerate() {
+        turns[row] = *delay % period;
     }
     turns
 }
 
-// Whether a row with the starts x and y is placed and meets a row with the starts a and b.
-fn meets(circle: Circle, a: u32, b: u32, x: u32, y: u32) -> bool
-    ensures { result ≡ blocked circle.period circle.span a b x y }
+// Whether a row with this start is placed and meets a new one.
+fn meets(circle: Circle, placed: Start, new: Start) -> bool
+    ensures { result ≡ blocked circle.period circle.span new.first new.second placed.first placed.second }
 {
-    if circle.period <= x {
+    if circle.period <= placed.first {
         return false;
     }
-    if !circle.apart(x, a) {
+    if !circle.apart(placed.first, new.first) {
         return true;
     }
-    !circle.apart(y, b)
+    !circle.apart(placed.second, new.second)
 }
 
-// Whether a row with the starts a and b meets no placed row.
-fn is_free(circle: Circle, firsts: &Rows, seconds: &Rows, rows: usize, a: u32, b: u32) -> bool
-    requires { rows ≤ max_rows }
-    ensures { result ≡ unblocked circle.period circle.span firsts.now seconds.now rows a b }
-{
-    let mut i: usize = 0;
-    while i < rows {
-        if meets(circle, a, b, firsts[i], seconds[i]) {
-            return false;
+impl Rows {
+    // Whether a row with this start meets no placed row.
+    fn is_free(&self, board: &Board, new: Start) -> bool
+        requires { self.now.count ≤ max_rows }
+        ensures { result ≡ unblocked self.now.circle.period self.now.circle.span (firsts board.now) (seconds board.now)
+            self.now.count new.first new.second }
+    {
+        for placed in &board[..self.count] {
+            if meets(self.circle, *placed, new) {
+                return false;
+            }
         }
-        i += 1;
+        true
     }
-    true
-}
 
-// The number of the first step from a number on.
-fn next_step(p: u32, firsts: &Rows, rows: usize, from: usize) -> usize
-    requires { (rows ≤ max_rows) × (from ≤ rows * (2 * max_rows)) }
-    ensures { Next p rows firsts.now from result }
-{
-    let mut k = from;
-    while k < rows * ROW {
+    // The number of the first step from a number on. The walk jumps, so it is no `for`.
+    fn next_step(&self, board: &Board, from: usize) -> usize
+        requires { (self.now.count ≤ max_rows) × (from ≤ self.now.count * (2 * max_rows)) }
+        ensures { Next self.now.circle.period self.now.count (firsts board.now) from result }
+    {
+        let mut k = from;
+        while k < self.count * ROW {
+            let j = k / ROW;
+            if board[j].first < self.circle.period {
+                k = (j + 1) * ROW;
+                continue;
+            }
+            let i = k / 2 % MAX_ROWS;
+            if self.count <= i {
+                k = (j + 1) * ROW;
+                continue;
+            }
+            if board[i].first < self.circle.period {
+                return k;
+            }
+            k += 2 - k % 2;
+        }
+        k
+    }
+
+    // Where a step puts its row.
+    fn offset(&self, board: &Board, k: usize) -> u32
+        requires { Searchable self.now × Stands self.now board.now
+            × (is_step self.now.circle.period self.now.count (firsts board.now) (step_at k) ≡ true) }
+        ensures { (result ≡ puts self.now.circle.period self.now.circle.span self.now.delays (firsts board.now) (step_at k))
+            × (result < self.now.circle.period) }
+    {
+        let beside = board[k / 2 % MAX_ROWS];
+        if k % 2 == 0 {
+            return self.circle.turn(beside.first, self.circle.span);
+        }
+        let second = self.circle.turn(beside.second, self.circle.span);
+        self.circle
+            .turn(second, self.circle.period - self.delays[k / ROW])
+    }
+
+    // Tries the step k, which is one test: where it is good, the rows that are then left are placed.
+    #[cycle(descend_try_step)]
+    fn try_step(&self, board: &mut Board, unplaced: usize, k: usize, left: u64) -> Hunt
+        requires { Searchable self.now × Stands self.now board.old
+            × (k < self.now.count * (2 * max_rows))
+            × (is_step self.now.circle.period self.now.count (firsts board.old) (step_at k) ≡ true) × (0 < left) }
+        ensures tried { Tried self.now unplaced k left board.old result board.new }
+        ensures starts { Stands self.now board.new }
+    {
+        let rest = left - 1;
         let j = k / ROW;
-        if firsts[j] < p {
-            k = (j + 1) * ROW;
-            continue;
+        let first = self.offset(board, k);
+        let new = Start {
+            first,
+            second: self.circle.turn(first, self.delays[j]),
+        };
+        if !self.is_free(board, new) {
+            return Hunt::Nothing(rest);
         }
-        let i = k / 2 % MAX_ROWS;
-        if rows <= i {
-            k = (j + 1) * ROW;
-            continue;
-        }
-        if firsts[i] < p {
-            return k;
-        }
-        k += 2 - k % 2;
-    }
-    k
-}
-
-// Where a step puts its row.
-fn offset(
-    circle: Circle,
-    delays: &Rows,
-    firsts: &Rows,
-    seconds: &Rows,
-    rows: usize,
-    k: usize,
-) -> u32
-    requires { Table circle.period circle.span delays.now rows × Starts circle.period delays.now rows firsts.now seconds.now
-        × (is_step circle.period rows firsts.now (step_at k) ≡ true) }
-    ensures { (result ≡ puts circle.period circle.span delays.now firsts.now (step_at k)) × (result < circle.period) }
-{
-    let i = k / 2 % MAX_ROWS;
-    if k % 2 == 0 {
-        return circle.turn(firsts[i], circle.span);
-    }
-    circle.turn(
-        circle.turn(seconds[i], circle.span),
-        circle.period - delays[k / ROW],
-    )
-}
-
-// Tries the step k, which is one test: where it is good, the rows that are then left are placed.
-#[cycle(descend_try_step)]
-fn try_step(
-    circle: Circle,
-    delays: &Rows,
-    firsts: &mut Rows,
-    seconds: &mut Rows,
-    rows: usize,
-    unplaced: usize,
-    k: usize,
-    left: u64,
-) -> Hunt
-    requires { Table circle.period circle.span delays.now rows × Starts circle.period delays.now rows firsts.old seconds.old
-        × (k < rows * (2 * max_rows)) × (is_step circle.period rows firsts.old (step_at k) ≡ true) × (0 < left) }
-    ensures tried { Tried circle.period circle.span delays.now rows unplaced k left firsts.old result firsts.new }
-    ensures starts { Starts circle.period delays.now rows firsts.new seconds.new }
-{
-    let rest = left - 1;
-    let j = k / ROW;
-    let a = offset(circle, delays, firsts, seconds, rows, k);
-    let b = circle.turn(a, delays[j]);
-    if !is_free(circle, firsts, seconds, rows, a, b) {
-        return Hunt::Nothing(rest);
-    }
-    let old = firsts[j];
-    firsts[j] = a;
-    seconds[j] = b;
-    let deeper = descend(circle, delays, firsts, seconds, rows, unplaced, rest);
-    match deeper {
-        Hunt::Found(left) => Hunt::Found(left),
-        Hunt::Nothing(left) => {
-            firsts[j] = old;
-            Hunt::Nothing(left)
-        }
-        Hunt::Spent => {
-            firsts[j] = old;
-            Hunt::Spent
-        }
-    }
-}
-
-// Places the rows that are left, `unplaced` of them.
-#[cycle(descend_try_step)]
-fn descend(
-    circle: Circle,
-    delays: &Rows,
-    firsts: &mut Rows,
-    seconds: &mut Rows,
-    rows: usize,
-    unplaced: usize,
-    budget: u64,
-) -> Hunt
-    requires { Table circle.period circle.span delays.now rows × Starts circle.period delays.now rows firsts.old seconds.old }
-    ensures descended { Descended circle.period circle.span delays.now rows unplaced budget firsts.old result firsts.new }
-    ensures starts { Starts circle.period delays.now rows firsts.new seconds.new }
-{
-    if unplaced == 0 {
-        return Hunt::Found(budget);
-    }
-    let end = rows * ROW;
-    let mut left = budget;
-    let mut k = next_step(circle.period, firsts, rows, 0);
-    while k < end {
-        if left == 0 {
-            return Hunt::Spent;
-        }
-        let deeper = try_step(circle, delays, firsts, seconds, rows, unplaced - 1, k, left);
-        match deeper {
-            Hunt::Found(rest) => {
-                return Hunt::Found(rest);
+        let old = board[j];
+        board[j] = new;
+        match self.descend(board, unplaced, rest) {
+            Hunt::Found(left) => Hunt::Found(left),
+            Hunt::Nothing(left) => {
+                board[j] = old;
+                Hunt::Nothing(left)
             }
             Hunt::Spent => {
-                return Hunt::Spent;
-            }
-            Hunt::Nothing(rest) => {
-                left = rest;
-                k = next_step(circle.period, firsts, rows, k + 1);
+                board[j] = old;
+                Hunt::Spent
             }
         }
     }
-    Hunt::Nothing(left)
+
+    // Places the rows that are left, `unplaced` of them.
+    #[cycle(descend_try_step)]
+    fn descend(&self, board: &mut Board, unplaced: usize, budget: u64) -> Hunt
+        requires { Searchable self.now × Stands self.now board.old }
+        ensures descended { Descended self.now unplaced budget board.old result board.new }
+        ensures starts { Stands self.now board.new }
+    {
+        if unplaced == 0 {
+            return Hunt::Found(budget);
+        }
+        let mut left = budget;
+        let mut k = self.next_step(board, 0);
+        // The steps are found one by one on a board that changes, so this is no `for`.
+        while k < self.count * ROW {
+            if left == 0 {
+                return Hunt::Spent;
+            }
+            match self.try_step(board, unplaced - 1, k, left) {
+                Hunt::Found(rest) => {
+                    return Hunt::Found(rest);
+                }
+                Hunt::Spent => {
+                    return Hunt::Spent;
+                }
+                Hunt::Nothing(rest) => {
+                    left = rest;
+                    k = self.next_step(board, k + 1);
+                }
+            }
+        }
+        Hunt::Nothing(left)
+    }
 }

@@ -5,8 +5,8 @@ use native.Mathlib.Omega.{arith}
 use Rattle.search.proofs.Blocking.{not_placed, first_near, second_decides}
 use Rattle.search.proofs.meets.Goals as goal
 
-pub returns-then-circle-x : goal.returns-then-circle-x
-returns-then-circle-x c = not_placed _ _ _ _ _ _ c.if-circle-x.true
+pub returns-then-circle-placed : goal.returns-then-circle-placed
+returns-then-circle-placed c = not_placed _ _ _ _ _ _ c.if-circle-placed.true
 
 pub returns-then-not-apart : goal.returns-then-not-apart
 returns-then-not-apart c = first_near _ _ _ _ _ _ (omega arith) (ap not (sym c.apart.ensures ∙ c.if-not-apart.true))

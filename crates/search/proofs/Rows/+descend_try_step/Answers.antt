@@ -4,11 +4,13 @@ use mathlib.Core.Path.{ap}
 use mathlib.Core.Bool.{not}
 use Prim.Native.Nat.{◌+◌, ◌-◌, ◌*◌, ◌<◌}
 use native.Mathlib.Omega.{arith}
+use Rattle.link.proofs.Columns.{firsts_set, seconds_set}
+use Rattle.search.proofs.Boards.{first_on}
 use Rattle.search.proofs.Numbers.{names_at}
 use Rattle.search.proofs.Looping.{whole, begins, no_more, is_broke, one_finds, one_runs_out, one_in_vain}
 use Rattle.search.proofs.Trying.{hands_over, finds, in_vain, runs_out, starts_put}
-use Rattle.search.proofs.+descend_try_step.Invariants.{candidates}
-use Rattle.search.proofs.+descend_try_step.Goals as goal
+use Rattle.search.proofs.Rows.+descend_try_step.Invariants.{candidates}
+use Rattle.search.proofs.Rows.+descend_try_step.Goals as goal
 
 pub descend-returns-then-unplaced-eq0-clause-descended :
     goal.descend-returns-then-unplaced-eq0-clause-descended
@@ -24,8 +26,8 @@ descend-returns-then-left-eq0 t c =
       starts = c.loop-k.invariant.starts;
     }
 
-pub descend-try_step-deeper-requires : goal.descend-try_step-deeper-requires
-descend-try_step-deeper-requires t c =
+pub descend-try_step-requires : goal.descend-try_step-requires
+descend-try_step-requires t c =
     let h = c.requires.0.rows in
     let less : (c.args.unplaced - 1) * (candidates + 1) + (candidates - c.loop-k.k) < t = omega arith in
     let some : 0 < c.loop-k.left = omega arith in
@@ -54,29 +56,29 @@ descend-returns t c =
 pub try_step-returns-then-not-is_free-clause-tried :
     goal.try_step-returns-then-not-is_free-clause-tried
 try_step-returns-then-not-is_free-clause-tried t c =
-    hands_over c.requires.0 c.requires.1 c.args.k c.requires.3 c.offset-a.ensures c.turn-b.ensures.0 c.is_free.ensures
+    hands_over c.requires.0 c.requires.1 c.args.k c.requires.3 c.offset-first.ensures c.turn.ensures.0 c.is_free.ensures
     _ _ c.requires.4 (ap not c.if-not-is_free.true)
 
-pub try_step-descend-deeper-requires : goal.try_step-descend-deeper-requires
-try_step-descend-deeper-requires t c =
+pub try_step-descend-requires : goal.try_step-descend-requires
+try_step-descend-requires t c =
     let names = names_at _ _ _ c.args.k c.requires.3 in
     let h = c.requires.0.rows in
     let less : c.args.unplaced * (candidates + 1) < t = omega (arith, c.requires.2) in
-    (less, (c.requires.0, starts_put h c.requires.1 names.row_low _ c.turn-b.ensures.0))
+    (less, (c.requires.0, rw (firsts_set, seconds_set) (starts_put h c.requires.1 names.row_low _ c.turn.ensures.0)))
 
 pub try_step-returns-in-Found-clause-tried : goal.try_step-returns-in-Found-clause-tried
 try_step-returns-in-Found-clause-tried t c =
-    finds c.requires.0 c.requires.1 c.args.k c.requires.3 c.offset-a.ensures c.turn-b.ensures.0 c.is_free.ensures _ _
-    c.requires.4 (ap not c.if-not-is_free.false) c.in-Found.ensures.starts c.in-Found.ensures.descended
+    finds c.requires.0 c.requires.1 c.args.k c.requires.3 c.offset-first.ensures c.turn.ensures.0 c.is_free.ensures _ _
+    c.requires.4 (ap not c.if-not-is_free.false) c.in-Found.ensures.starts (rw firsts_set at c.in-Found.ensures.descended)
 
 pub try_step-returns-in-Nothing : goal.try_step-returns-in-Nothing
 try_step-returns-in-Nothing t c =
-    let w = in_vain c.requires.0 c.requires.1 c.args.k c.requires.3 c.offset-a.ensures c.turn-b.ensures.0
-    c.is_free.ensures _ _ c.requires.4 (ap not c.if-not-is_free.false) c.in-Nothing.ensures.starts c.in-Nothing.ensures.descended in
-    record { tried = w.0; starts = w.1 }
+    let w = in_vain c.requires.0 c.requires.1 c.args.k c.requires.3 c.offset-first.ensures c.turn.ensures.0
+    c.is_free.ensures _ _ c.requires.4 (ap not c.if-not-is_free.false) c.in-Nothing.ensures.starts _ (rw firsts_set at c.in-Nothing.ensures.descended) in
+    record { tried = rw (firsts_set, first_on) w.0; starts = rw (firsts_set, seconds_set, first_on) w.1 }
 
 pub try_step-returns-in-Spent : goal.try_step-returns-in-Spent
 try_step-returns-in-Spent t c =
-    let w = runs_out c.requires.0 c.requires.1 c.args.k c.requires.3 c.offset-a.ensures c.turn-b.ensures.0
-    c.is_free.ensures _ _ c.requires.4 (ap not c.if-not-is_free.false) c.in-Spent.ensures.starts c.in-Spent.ensures.descended in
-    record { tried = w.0; starts = w.1 }
+    let w = runs_out c.requires.0 c.requires.1 c.args.k c.requires.3 c.offset-first.ensures c.turn.ensures.0
+    c.is_free.ensures _ _ c.requires.4 (ap not c.if-not-is_free.false) c.in-Spent.ensures.starts _ (rw firsts_set at c.in-Spent.ensures.descended) in
+    record { tried = rw (firsts_set, first_on) w.0; starts = rw (firsts_set, seconds_set, first_on) w.1 }
