@@ -14,8 +14,7 @@ use Rattle.link.specs.declared.Link.{Link}
 use Rattle.link.specs.declared.Crossing.TheVariants.{Second}
 use Rattle.checker.specs.Judging.{clear_faults}
 use Rattle.checker.specs.declared.Collision.{Collision}
-use Rattle.std.specs.Prelude.{Some, Ok, Err}
-use Rattle.ground.specs.declared.Refusal.TheVariants.{NotClear}
+use Rattle.std.specs.Prelude.{Some, Ok}
 use Rattle.checker.proofs.Promises.{collision_is_first}
 use Rattle.checker.proofs.Worked.{collides, not_clear}
 use Rattle.ground.specs.Count.{count}

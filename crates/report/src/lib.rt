@@ -81,8 +81,8 @@ fn next_start(circle: Circle, starts: &[u32], x: u32) -> u32
 {
     let back = circle.period - x;
     let mut next = circle.period;
-    for start in starts {
-        next = circle.turn(*start, back).min(next);
+    for other in starts {
+        next = next.min(circle.turn(*other, back));
     }
     next
 }

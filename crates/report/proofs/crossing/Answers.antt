@@ -25,7 +25,7 @@ overflow_add-stretches c =
 pub loop-start-preserved : goal.loop-start-preserved
 loop-start-preserved c =
     elim c.if-run-gt0.branch [
-      then-run-gt0 w ↦
+      | then-run-gt0 w ↦
           rw (w.stretches-is, w.widest-is, w.max-widest.ensures)
           (over_run c.requires c.loop-start.invariant (omega arith) c.turn-end.ensures.0 c.next_start-run.ensures w.if-run-gt0.true)
       | else-run-gt0 w ↦

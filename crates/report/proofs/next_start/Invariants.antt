@@ -2,5 +2,5 @@
 use Rattle.report.specs.Steps.{NextStart}
 use Rattle.report.proofs.next_start.Given as goal
 
-abbrev pub invariant-loop-start : goal.invariant-loop-start
-invariant-loop-start l = NextStart l.circle.period l.starts l.start-index l.x l.next
+abbrev pub invariant-loop-other : goal.invariant-loop-other
+invariant-loop-other l = NextStart l.circle.period l.starts l.other-index l.x l.next
