@@ -17,9 +17,8 @@ use Rattle.link.proofs.Clearness.{clear_in}
 use Rattle.ground.proofs.Minimum.{least_cong}
 use Rattle.report.specs.Free.{used_of, free_of, is_free, stretch_of}
 use Rattle.report.specs.Steps.{Placed, free_at}
-use Rattle.report.specs.Answer.{said, telling, told}
+use Rattle.report.specs.Answer.{telling, told}
 use Rattle.report.specs.declared.Stretch.{Stretch}
-use Rattle.report.specs.declared.Reported.TheVariants.{Stretches}
 
 -- xs has the starts of the crossing c, row by row
 pub record StartsOf (p : ℕ) (ds os : List ℕ) (c : Crossing) (xs : List ℕ) : Type 0 where
@@ -68,14 +67,14 @@ module _ {p t : ℕ} {ds os ss : List ℕ} {j : ℕ} (r : InRange p t ds os) (w 
         each = stored _ ss j b (omega (arith, r.rows_high, w.room)) w.each e;
       }
 
-  pub fits : j ≤ length ss
-  fits = omega (arith, r.rows_high, w.row, w.room)
+  pub fits : length ds ≤ length ss
+  fits = omega (arith, r.rows_high, w.room)
 
-  pub seconds : length ds ≤ j → StartsOf p ds os two (take j ss)
+  pub seconds : length ds ≤ j → StartsOf p ds os two (take (length ds) ss)
   seconds l =
       record {
-        as_many = let e = length-take-le j ss fits in omega (arith, w.row);
-        each = λ i q. get_or-take j ss i 0 (omega arith) ∙ w.each i (omega arith);
+        as_many = length-take-le (length ds) ss fits;
+        each = λ i q. get_or-take (length ds) ss i 0 q ∙ w.each i (omega arith);
       }
 
 -- the numbers of a call are the crossing's, and those of both calls are the answer
@@ -85,6 +84,6 @@ module _ {p : ℕ} (t : ℕ) {ds os : List ℕ} where
   of_crossing {c} {xs} w e = e ∙ ap (λ (q : ℕ → Bool). stretch_of q p) (same_free p t ds os c xs w)
 
   pub tells : {xs ys : List ℕ} {a b : Stretch} → StartsOf p ds os one xs → StartsOf p ds os two ys →
-      a ≡ stretch_of (free_at p t xs) p → b ≡ stretch_of (free_at p t ys) p → said (Stretches a b) ≡ told p t ds os
-  unfolding said told
+      a ≡ stretch_of (free_at p t xs) p → b ≡ stretch_of (free_at p t ys) p → telling a b ≡ told p t ds os
+  unfolding told
   tells u v e f = ap₂ telling (of_crossing u e) (of_crossing v f)

@@ -72,19 +72,19 @@ module _ {p t : ℕ} {xs : List ℕ} (h : Placed p t xs) {i free k w : ℕ} (v :
           }
 
       -- a stretch lies there
-      pub over_run : 0 < r → Passed p t xs (i + 1) (free - t) (k + 1) (max r w)
+      pub over_run : 0 < r → Passed p t xs (i + 1) (free - t) (k + 1) (max w r)
       over_run s =
           record {
             row = omega arith;
             left = less p t i free v.left fits.0;
             number = add-one k ∙ ap suc v.number
                 ∙ sym (rw (add-one i) (count_in_lem _ i (lt-ltb 0 (behind p t xs i) (omega (arith, run)))));
-            none_wider = below_more (λ j. behind p t xs j ≤ max r w) i (λ j m. omega (arith, v.none_wider j m)) (omega (arith, run));
+            none_wider = below_more (λ j. behind p t xs j ≤ max w r) i (λ j m. omega (arith, v.none_wider j m)) (omega (arith, run));
             as_wide = λ _.
                 ⊎_elim (λ m. earlier (omega arith) (v.as_wide (omega arith))) (λ m. (i, omega arith, omega (arith, run))) (lt_or_ge r w);
           }
         where
-          earlier : max r w ≡ w → (j : ℕ) × (j < i) × (behind p t xs j ≡ w) → (j : ℕ) × (j < i + 1) × (behind p t xs j ≡ max r w)
+          earlier : max w r ≡ w → (j : ℕ) × (j < i) × (behind p t xs j ≡ w) → (j : ℕ) × (j < i + 1) × (behind p t xs j ≡ max w r)
           earlier g d = (d.0, omega (arith, d.1), d.2 ∙ sym g)
 
   module _ (m : length xs ≤ i) where

@@ -32,7 +32,7 @@ module _ (p : ℕ) (xs : List ℕ) (n x a b : ℕ) (hx : x < p) (hn : at xs n < 
       let same : (x + k + (p - x)) % p ≡ k = rw d (add-mod_right k p ∙ mod-eq_of_lt m) in
       omega (arith, back, ap (λ (z : ℕ). (z + (p - x)) % p) f ∙ mod-add-mod (x + k) p (p - x) ∙ same)
 
-  pub one_start_more : NextStart p xs (n + 1) x (min a b)
+  pub one_start_more : NextStart p xs (n + 1) x (min b a)
   one_start_more =
       record {
         high = omega (arith, w.high);
@@ -42,8 +42,8 @@ module _ (p : ℕ) (xs : List ℕ) (n x a b : ℕ) (hx : x < p) (hn : at xs n < 
             (not_before k (omega arith) (omega (arith, w.high)));
       }
     where
-      old : min a b ≡ b → b < p → (i : ℕ) × (i < n + 1) × (at xs i ≡ (x + min a b) % p)
+      old : min b a ≡ b → b < p → (i : ℕ) × (i < n + 1) × (at xs i ≡ (x + min b a) % p)
       old f l = let s = w.start l in rw f (s.0, omega (arith, s.1), s.2)
 
-      this : min a b ≡ a → (i : ℕ) × (i < n + 1) × (at xs i ≡ (x + min a b) % p)
+      this : min b a ≡ a → (i : ℕ) × (i < n + 1) × (at xs i ≡ (x + min b a) % p)
       this f = rw f (n, omega arith, there)

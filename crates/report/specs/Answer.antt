@@ -1,14 +1,15 @@
 -- What the stretch report answers.
-use Rattle.std.specs.Prelude.{List, ℕ}
+use Rattle.std.specs.Prelude.{List, ℕ, Result, Ok, Err}
 use Rattle.ground.specs.Judging.{first}
 use Rattle.ground.specs.Protocol.{unless}
+use Rattle.ground.specs.Refusals.{number_of}
+use Rattle.ground.specs.declared.Fault.{Fault}
 use Rattle.link.specs.Rows.{one, two}
 use Rattle.link.specs.declared.Link.{Link}
 use Rattle.checker.specs.Judging.{clear_faults}
 use Rattle.report.specs.Free.{is_free, stretch_of}
 use Rattle.report.specs.declared.Stretch.{Stretch}
 use Rattle.report.specs.declared.Reported.{Reported}
-use Rattle.report.specs.declared.Reported.TheVariants.{Stretches, Refused}
 
 pub data Verdict : Type 0 where
   reported refused : Verdict
@@ -31,9 +32,13 @@ telling a b = record { verdict = reported; number = 0; place = 0; first = a; sec
 abbrev pub refusing : ℕ → ℕ → Said
 refusing n p = record { verdict = refused; number = n; place = p; first = no_stretch; second = no_stretch }
 
-unfoldable pub said : Reported → Said
-said (Stretches a b) = telling a b
-said (Refused n p) = refusing n p
+-- as the code says it: the numbers of both crossings, or a refusal
+abbrev pub Answered : Type 0
+Answered = Result Reported Fault
+
+unfoldable pub said : Answered → Said
+said (Ok r) = telling r.first r.second
+said (Err f) = refusing (number_of f.refusal) f.place
 
 -- "For a clear plan and each crossing"
 unfoldable pub told : ℕ → ℕ → List ℕ → List ℕ → Said

@@ -1,76 +1,71 @@
 // The stretch report: the free slots of each crossing of a clear plan, and the stretches that they form.
 #![tactic(auto)]
 
-ghost use Rattle.std.specs.Prelude.{◌≡◌, ℕ, ◌<◌, max, min, length};
+ghost use Rattle.std.specs.Prelude.{◌≡◌, ℕ, ◌<◌, length};
 ghost use Rattle.link.specs.Range.{InRange};
 ghost use Rattle.link.specs.Rows.{Clear};
-ghost use Rattle.report.specs.Answer.{said, answer, told};
+ghost use Rattle.report.specs.Answer.{said, answer, telling, told};
 ghost use Rattle.report.specs.Free.{stretch_of};
 ghost use Rattle.report.specs.Steps.{Placed, at, free_at, NextStart};
 
-use ground::Judged;
-use link::Link;
+use ground::Fault;
 use link::limits::MAX_ROWS;
+use link::{Circle, Link};
 
 // The numbers of one crossing.
-#[derive(Clone, Copy)]
+#[derive(Clone, Copy, Debug, PartialEq, Eq)]
 pub struct Stretch {
     pub free: u32,
     pub stretches: u32,
     pub widest: u32,
 }
 
-#[derive(Clone, Copy)]
-pub enum Reported {
-    Stretches { first: Stretch, second: Stretch },
-    Refused { number: u32, place: usize },
+// The numbers of both crossings.
+#[derive(Clone, Copy, Debug, PartialEq, Eq)]
+pub struct Reported {
+    pub first: Stretch,
+    pub second: Stretch,
 }
 
 // Judges a plan that is to be clear, and reports the free slots of both crossings.
-pub fn report(link: Link, delays: &[u32], offsets: &[u32]) -> Reported
+pub fn report(link: Link, delays: &[u32], offsets: &[u32]) -> Result<Reported, Fault>
     ensures { said result ≡ answer link delays.now offsets.now }
 {
-    match checker::judge_clear(link, delays, offsets) {
-        Judged::Fault { number, place } => Reported::Refused { number, place },
-        Judged::Fine => both(link.period, link.size, delays, offsets),
-    }
+    checker::judge_clear(link, delays, offsets)?;
+    Ok(both(link.circle(), delays, offsets))
 }
 
 // Both crossings: the offsets are the first one's starts, and the second one's are worked out once.
-fn both(period: u32, size: u32, delays: &[u32], offsets: &[u32]) -> Reported
-    requires { (0 < size) × InRange period size delays.now offsets.now × Clear period size delays.now offsets.now }
-    ensures { said result ≡ told period size delays.now offsets.now }
+fn both(circle: Circle, delays: &[u32], offsets: &[u32]) -> Reported
+    requires { (0 < circle.span) × InRange circle.period circle.span delays.now offsets.now
+        × Clear circle.period circle.span delays.now offsets.now }
+    ensures { telling result.first result.second ≡ told circle.period circle.span delays.now offsets.now }
 {
     let mut seconds = [0u32; MAX_ROWS];
-    let mut i: usize = 0;
-    while i < delays.len() {
-        seconds[i] = link::second_start(period, delays[i], offsets[i]);
-        i += 1;
+    for (i, delay) in delays.iter().enumerate() {
+        seconds[i] = circle.second_start(*delay, offsets[i]);
     }
-    let first = crossing(period, size, offsets);
-    let second = crossing(period, size, &seconds[..i]);
-    Reported::Stretches { first, second }
+    let first = crossing(circle, offsets);
+    let second = crossing(circle, &seconds[..delays.len()]);
+    Reported { first, second }
 }
 
 // The numbers of a crossing with these starts: each message takes its slots, and behind it all is free up to the next start.
-fn crossing(period: u32, size: u32, starts: &[u32]) -> Stretch
-    requires { Placed period size starts.now }
-    ensures { result ≡ stretch_of (free_at period size starts.now) period }
+fn crossing(circle: Circle, starts: &[u32]) -> Stretch
+    requires { Placed circle.period circle.span starts.now }
+    ensures { result ≡ stretch_of (free_at circle.period circle.span starts.now) circle.period }
 {
-    let mut free = period;
+    let mut free = circle.period;
     let mut stretches = 0;
-    let mut widest = 0;
-    let mut i = 0;
-    while i < starts.len() {
-        let end = link::turn(period, starts[i], size);
-        let run = next_start(period, starts, end);
-        free -= size;
-        i += 1;
-        if run == 0 {
-            continue;
+    let mut widest: u32 = 0;
+    for start in starts {
+        let end = circle.turn(*start, circle.span);
+        let run = next_start(circle, starts, end);
+        free -= circle.span;
+        if run > 0 {
+            stretches += 1;
+            widest = widest.max(run);
         }
-        stretches += 1;
-        widest = wider(run, widest);
     }
     Stretch {
         free,
@@ -79,29 +74,15 @@ fn crossing(period: u32, size: u32, starts: &[u32]) -> Stretch
     }
 }
 
-fn wider(a: u32, b: u32) -> u32
-    ensures { result ≡ max a b }
-{
-    if a < b { b } else { a }
-}
-
 // How many slots on from x the next message starts, round the period. A start turned back by x is so many slots on from x.
-fn next_start(period: u32, starts: &[u32], x: u32) -> u32
-    requires { (x < period) × (0 < length starts.now) × ((i : ℕ) → i < length starts.now → at starts.now i < period) }
-    ensures { NextStart period starts.now (length starts.now) x result }
+fn next_start(circle: Circle, starts: &[u32], x: u32) -> u32
+    requires { (x < circle.period) × (0 < length starts.now) × ((i : ℕ) → i < length starts.now → at starts.now i < circle.period) }
+    ensures { NextStart circle.period starts.now (length starts.now) x result }
 {
-    let back = period - x;
-    let mut next = period;
-    let mut j = 0;
-    while j < starts.len() {
-        next = nearer(link::turn(period, starts[j], back), next);
-        j += 1;
+    let back = circle.period - x;
+    let mut next = circle.period;
+    for other in starts {
+        next = next.min(circle.turn(*other, back));
     }
     next
-}
-
-fn nearer(a: u32, b: u32) -> u32
-    ensures { result ≡ min a b }
-{
-    if b < a { b } else { a }
 }

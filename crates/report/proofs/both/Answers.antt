@@ -1,6 +1,5 @@
-use mathlib.Core.Path.{refl, sym}
+use mathlib.Core.Path.{refl}
 use native.Mathlib.Omega.{arith}
-use lib.Seq.{length-take-le}
 use Rattle.report.proofs.Crossings.{none_yet, one_more, fits, placed, firsts, seconds, tells}
 use Rattle.report.proofs.both.Goals as goal
 
@@ -15,9 +14,6 @@ crossing-first-requires c = placed c.requires.1 c.requires.0 c.requires.2 (first
 
 pub slice_bounds-seconds-end : goal.slice_bounds-seconds-end
 slice_bounds-seconds-end c = fits c.requires.1 c.loop-i.invariant
-
-pub slice_bounds-crossing-end : goal.slice_bounds-crossing-end
-slice_bounds-crossing-end c = sym (length-take-le _ _ (fits c.requires.1 c.loop-i.invariant))
 
 pub crossing-second-requires : goal.crossing-second-requires
 crossing-second-requires c = placed c.requires.1 c.requires.0 c.requires.2 (seconds c.requires.1 c.loop-i.invariant (omega arith))

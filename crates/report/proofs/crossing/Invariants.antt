@@ -1,11 +1,6 @@
--- Invariant: the numbers are those of what lies behind the first i messages.
-use Prim.Native.Nat.{◌-◌}
-use lib.ListN.{length}
+-- Invariant: the numbers are those of what lies behind the messages so far.
 use Rattle.report.proofs.Passing.{Passed}
 use Rattle.report.proofs.crossing.Given as goal
 
-abbrev pub invariant-loop-i : goal.invariant-loop-i
-invariant-loop-i l = Passed l.period l.size l.starts l.i l.free l.stretches l.widest
-
-abbrev pub decreases-loop-i : goal.decreases-loop-i
-decreases-loop-i l = length l.starts - l.i
+abbrev pub invariant-loop-start : goal.invariant-loop-start
+invariant-loop-start l = Passed l.circle.period l.circle.span l.starts l.start-index l.free l.stretches l.widest
