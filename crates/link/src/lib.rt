@@ -8,7 +8,7 @@ ghost use Rattle.std.specs.Prelude.{◌≡◌, ◌<◌, ◌≤◌, length};
 ghost use Rattle.ground.specs.Lent.{on_front};
 ghost use Rattle.link.specs.Slots.{apartb, gap};
 ghost use Rattle.link.specs.Rows.{span_of, second, first_near};
-ghost use Rattle.link.specs.Starts.{met, firsts, seconds};
+ghost use Rattle.link.specs.Starts.{met, firsts, seconds, crossing_number};
 
 #[derive(Clone, Copy, Debug, PartialEq, Eq)]
 pub struct Link {
@@ -46,6 +46,14 @@ pub struct Start {
 pub enum Crossing {
     First = 1,
     Second = 2,
+}
+
+impl Crossing {
+    pub fn number(self) -> u32
+        ensures { result ≡ crossing_number self }
+    {
+        self as u32
+    }
 }
 
 // The least earlier row that is met, and the crossing.

@@ -1,12 +1,12 @@
 // The entry points for C and Rust: numbers and slices in, an answer's numbers out, in the paper's order. `seamwhisk_c` exports them.
 #![tactic(auto)]
 
-mod fill;
+mod numbers;
 
 ghost use Rattle.std.specs.Prelude.{◌≡◌};
 ghost use Rattle.ground.specs.Protocol.{gives};
-ghost use Rattle.checker.specs.Answer.{said, answer as answer_checked};
-ghost use Rattle.quick.specs.Answer.{said as said_planned, first_fit, meta_offset};
+ghost use Rattle.checker.specs.Answer.{answer as answer_checked};
+ghost use Rattle.quick.specs.Answer.{first_fit, meta_offset};
 ghost use Rattle.oneslot.specs.Answer.{one_slot};
 ghost use Rattle.joined.specs.Answer.{lists as lists_texts, planning};
 ghost use Rattle.planfile.specs.Answer.{lists, read_gives, write_gives};
@@ -18,33 +18,8 @@ ghost use Rattle.text.specs.Answer.{reading};
 ghost use Rattle.seamwhisk.specs.Numbers.{link_of, as_numbers, checked_as, planned_as, searched_as, read_as, run_as, written_as, file_as};
 ghost use Rattle.seamwhisk.specs.Numbers.{reported_as};
 
-use checker::Checked;
-use joined::Run;
 use link::Link;
-use planfile::{PlanRead, PlanWritten};
-use quick::Planned;
 use records::Record;
-use report::Reported;
-use search::Answer;
-use search::limits::{BUDGET_SPENT, NO_BUILD};
-use text::Read;
-
-// The checker's answer, as its numbers.
-fn checked(answer: &mut [u64; 5], r: Checked)
-    ensures { answer.new ≡ checked_as (said r) }
-{
-    match r {
-        Checked::Clear => fill::five(answer, 0, 0, 0, 0, 0),
-        Checked::Collision {
-            earlier,
-            later,
-            crossing,
-        } => fill::five(answer, 0, 0, earlier as u64, later as u64, crossing as u64),
-        Checked::Refused { number, place } => {
-            fill::five(answer, number as u64, place as u64, 0, 0, 0)
-        }
-    }
-}
 
 pub fn seamwhisk_check(
     period: u32,
@@ -56,10 +31,7 @@ pub fn seamwhisk_check(
     ensures { answer.new
         ≡ checked_as (answer_checked (link_of period size) delays.now offsets.now) }
 {
-    checked(
-        answer,
-        checker::check(Link { period, size }, delays, offsets),
-    )
+    *answer = numbers::checked(checker::check(Link { period, size }, delays, offsets));
 }
 
 // The checker over a list of records.
@@ -67,18 +39,7 @@ pub fn seamwhisk_check_records(period: u32, size: u32, records: &[Record], answe
     ensures { answer.new
         ≡ checked_as (answer_checked (link_of period size) (delays_of records.now) (offsets_of records.now)) }
 {
-    let r = records::check_records(Link { period, size }, records);
-    checked(answer, r)
-}
-
-// The answer of a planner that counts no tests, as its numbers.
-fn planned(answer: &mut [u64; 2], r: Planned)
-    ensures { answer.new ≡ planned_as (said_planned r) }
-{
-    match r {
-        Planned::Plan => fill::two(answer, 0, 0),
-        Planned::Refused { number, place } => fill::two(answer, number as u64, place as u64),
-    }
+    *answer = numbers::checked(records::check_records(Link { period, size }, records));
 }
 
 pub fn seamwhisk_first_fit(
@@ -91,10 +52,7 @@ pub fn seamwhisk_first_fit(
     ensures { gives answer.new offsets.new
         ≡ as_numbers planned_as (first_fit (link_of period size) delays.now offsets.old) }
 {
-    planned(
-        answer,
-        quick::first_fit(Link { period, size }, delays, offsets),
-    )
+    *answer = numbers::planned(quick::first_fit(Link { period, size }, delays, offsets));
 }
 
 pub fn seamwhisk_meta_offset(
@@ -107,10 +65,7 @@ pub fn seamwhisk_meta_offset(
     ensures { gives answer.new offsets.new
         ≡ as_numbers planned_as (meta_offset (link_of period size) delays.now offsets.old) }
 {
-    planned(
-        answer,
-        quick::meta_offset(Link { period, size }, delays, offsets),
-    )
+    *answer = numbers::planned(quick::meta_offset(Link { period, size }, delays, offsets));
 }
 
 pub fn seamwhisk_one_slot(
@@ -123,10 +78,7 @@ pub fn seamwhisk_one_slot(
     ensures { gives answer.new offsets.new
         ≡ as_numbers planned_as (one_slot (link_of period size) delays.now offsets.old) }
 {
-    planned(
-        answer,
-        oneslot::one_slot(Link { period, size }, delays, offsets),
-    )
+    *answer = numbers::planned(oneslot::one_slot(Link { period, size }, delays, offsets));
 }
 
 pub fn seamwhisk_exact(
@@ -140,12 +92,7 @@ pub fn seamwhisk_exact(
     ensures { gives answer.new offsets.new
         ≡ as_numbers searched_as (exactly (link_of period size) delays.now budget offsets.old) }
 {
-    match search::exact(Link { period, size }, delays, budget, offsets) {
-        Answer::Plan { tests } => fill::three(answer, 0, 0, tests),
-        Answer::None { tests } => fill::three(answer, NO_BUILD as u64, 0, tests),
-        Answer::Spent { tests } => fill::three(answer, BUDGET_SPENT as u64, 0, tests),
-        Answer::Refused { number, place } => fill::three(answer, number as u64, place as u64, 0),
-    }
+    *answer = numbers::searched(search::exact(Link { period, size }, delays, budget, offsets));
 }
 
 pub fn seamwhisk_ceiling(rows: usize) -> u64
@@ -158,19 +105,7 @@ pub fn seamwhisk_read_table(text: &[u8], delays: &mut [u32], answer: &mut [u64; 
     ensures { gives answer.new delays.new
         ≡ as_numbers read_as (reading text.now delays.old) }
 {
-    match text::read_table(text, delays) {
-        Read::Table { link, rows } => fill::five(
-            answer,
-            0,
-            0,
-            link.period as u64,
-            link.size as u64,
-            rows as u64,
-        ),
-        Read::Refused { number, place } => {
-            fill::five(answer, number as u64, place as u64, 0, 0, 0)
-        }
-    }
+    *answer = numbers::read(text::read_table(text, delays));
 }
 
 // The answers to joined texts are a flat list, four numbers each: no slice of structs can be lent.
@@ -184,14 +119,7 @@ pub fn seamwhisk_plan_texts_flat(
     ensures { gives answer.new (lists_texts answers.new offsets.new)
         ≡ as_numbers run_as (planning texts.now budget (lists_texts answers.old offsets.old)) }
 {
-    match joined::plan_texts(texts, budget, answers, offsets) {
-        Run::All { texts } => fill::three(answer, 0, 0, texts as u64),
-        Run::Stopped {
-            texts,
-            number,
-            place,
-        } => fill::three(answer, number as u64, place as u64, texts as u64),
-    }
+    *answer = numbers::run(joined::plan_texts(texts, budget, answers, offsets));
 }
 
 pub fn seamwhisk_write_plan(
@@ -205,12 +133,7 @@ pub fn seamwhisk_write_plan(
     ensures { gives answer.new file.new
         ≡ as_numbers written_as (write_gives (link_of period size) delays.now offsets.now file.old) }
 {
-    match planfile::write_plan(Link { period, size }, delays, offsets, file) {
-        PlanWritten::File { length } => fill::three(answer, 0, 0, length as u64),
-        PlanWritten::Refused { number, place } => {
-            fill::three(answer, number as u64, place as u64, 0)
-        }
-    }
+    *answer = numbers::written(planfile::write_plan(Link { period, size }, delays, offsets, file));
 }
 
 pub fn seamwhisk_read_plan(
@@ -222,21 +145,7 @@ pub fn seamwhisk_read_plan(
     ensures { gives answer.new (lists delays.new offsets.new)
         ≡ as_numbers file_as (read_gives file.now delays.old offsets.old) }
 {
-    match filereader::read_plan(file, delays, offsets) {
-        PlanRead::Plan { link, rows } => {
-            fill::five(
-                answer,
-                0,
-                0,
-                link.period as u64,
-                link.size as u64,
-                rows as u64,
-            )
-        }
-        PlanRead::Refused { number, place } => {
-            fill::five(answer, number as u64, place as u64, 0, 0, 0)
-        }
-    }
+    *answer = numbers::file(filereader::read_plan(file, delays, offsets));
 }
 
 pub fn seamwhisk_report(
@@ -249,20 +158,5 @@ pub fn seamwhisk_report(
     ensures { answer.new
         ≡ reported_as (answer_reported (link_of period size) delays.now offsets.now) }
 {
-    match report::report(Link { period, size }, delays, offsets) {
-        Reported::Stretches { first, second } => fill::eight(
-            answer,
-            0,
-            0,
-            first.free as u64,
-            first.stretches as u64,
-            first.widest as u64,
-            second.free as u64,
-            second.stretches as u64,
-            second.widest as u64,
-        ),
-        Reported::Refused { number, place } => {
-            fill::eight(answer, number as u64, place as u64, 0, 0, 0, 0, 0, 0)
-        }
-    }
+    *answer = numbers::reported(report::report(Link { period, size }, delays, offsets));
 }
