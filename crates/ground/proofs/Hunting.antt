@@ -55,20 +55,13 @@ pub record Walked (q r : ℕ → Bool) (n k : ℕ) : Type 0 where
 
 module _ (q r : ℕ → Bool) (n : ℕ) (only : (i : ℕ) → i < n → q i ≡ false → r i ≡ false) where
   -- on to the next number with q
-  walk_on : (a k : ℕ) → k ≡ least_from q a n → ((i : ℕ) → i < a → r i ≡ false) → Walked q r n k
+  pub walk_on : (a k : ℕ) → k ≡ least_from q a n → ((i : ℕ) → i < a → r i ≡ false) → Walked q r n k
   walk_on a k e b =
       rw e (record {
         high = from_high q a n;
         here = λ l. (from_here q a n l).1;
         before = λ i l. ⊎_elim (b i) (λ g. only i (omega (arith, from_high q a n)) (from_before q a n i g l)) (lt_or_ge i a);
       })
-
-  pub walk_begins : (k : ℕ) → k ≡ least_from q 0 n → Walked q r n k
-  walk_begins k e = walk_on 0 k e (λ i l. absurd (omega arith))
-
-  pub walk_goes_on : (j k : ℕ) → Walked q r n j → r j ≡ false → k ≡ least_from q (j + 1) n → Walked q r n k
-  walk_goes_on j k w f e =
-      walk_on (j + 1) k e (λ i l. ⊎_elim (w.before i) (λ g. let s : i ≡ j = omega arith in rw s f) (lt_or_ge i j))
 
 module _ (q r : ℕ → Bool) (n k : ℕ) (w : Walked q r n k) where
   pub walk_ends : n ≤ k → (i : ℕ) → i < n → r i ≡ false

@@ -9,10 +9,8 @@ use borrow.Author.Tests.{ltb-true}
 use Rattle.ground.specs.Least.{least, some}
 use Rattle.ground.proofs.Bools.{clash, is_false, lt_or_ge}
 use Rattle.ground.proofs.Minimum.{least_low, some_at, some_has, none_has}
-use Rattle.oneslot.specs.Moves.{opens, move_of, gives_way, least_move}
+use Rattle.oneslot.specs.Moves.{Move, None, Row, opens, move_of, gives_way, least_move}
 use Rattle.oneslot.specs.Right.{NotAfter}
-use Rattle.oneslot.specs.declared.Move.{Move}
-use Rattle.oneslot.specs.declared.Move.TheVariants.{None, Row}
 
 -- two that are not after each other agree, and what decides next decides both ways
 agree : {R S : Type 0} (a b : ℕ) → (a < b) ⊎ ((a ≡ b) × R) → (b < a) ⊎ ((b ≡ a) × S) → (a ≡ b) × R × S

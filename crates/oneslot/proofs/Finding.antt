@@ -1,18 +1,19 @@
 -- How the code's walk over the rows finds the least move: row by row, each left out of the lists of starts. Assumes nothing.
-use mathlib.Core.Path.{◌≡◌, refl, sym}
+use mathlib.Core.Path.{◌≡◌, refl}
 use mathlib.Core.Bool.{Bool, true, false, cond}
-use mathlib.Core.List.{List}
-use Prim.Native.Nat.{ℕ, ◌-◌, ◌≤◌, ◌<◌}
+use mathlib.Core.List.{List, ◌++◌}
+use Prim.Native.Nat.{ℕ, ◌-◌, ◌<◌}
 use native.Mathlib.Omega.{arith}
-use lib.ListN.{length, take, drop, set, length-append, length-set, length-drop}
-use lib.Seq.{set-append_left, take-append-le, length-take-le}
+use lib.ListN.{length, get_or, take, set, length-set}
+use lib.Seq.{set-append_left, take-append-le}
 use Rattle.ground.specs.Least.{least, some}
 use Rattle.ground.proofs.Bools.{never}
 use Rattle.ground.proofs.Minimum.{least_at, some_at, some_none}
-use Rattle.oneslot.specs.Moves.{opens, move_of, gives_way, least_move}
-use Rattle.oneslot.specs.Others.{last_of, without, left_out}
-use Rattle.oneslot.specs.declared.Move.{Move}
-use Rattle.oneslot.specs.declared.Move.TheVariants.{None, Row}
+use Rattle.link.specs.Starts.{firsts, seconds}
+use Rattle.link.specs.declared.Start.{Start}
+use Rattle.link.proofs.Columns.{firsts_length, seconds_length, first_at, second_at, firsts_take, seconds_take, firsts_set, seconds_set}
+use Rattle.oneslot.specs.Moves.{Move, None, Row, opens, move_of, gives_way, least_move}
+use Rattle.oneslot.specs.Others.{without}
 
 module _ (p : ℕ) (q : ℕ → ℕ → ℕ → Bool) where
   -- a row gives way exactly where a pair of offsets is found for it
@@ -52,20 +53,19 @@ module _ (p : ℕ) (q : ℕ → ℕ → ℕ → Bool) where
   unfolding least_move
   no_row n h = rw (some_none (gives_way p q) n h)
 
--- an array of starts with row i of n rows left out: what is in front of its last place is the list without row i
-pub record Held (i n : ℕ) (zs new : List ℕ) : Type 0 where
-  pub front : take (n - 1) new ≡ without i zs
-  pub front_length : n - 1 ≡ length (take (n - 1) new)
+-- row i left out of an array that begins with the starts ss: the last one stands in its place
+module _ (ss rest : List Start) (i : ℕ) (d : Start) (h : i < length ss) where
+  abbrev last : Start
+  last = get_or ss (length ss - 1) d
 
-pub held : (i n : ℕ) (zs old new : List ℕ) → length zs ≡ n → i < n → n ≤ length old → new ≡ left_out i zs old → Held i n zs new
-unfolding left_out without
-held i n zs old new e h room f =
-    record {
-      front =
-          rw (f, ← e, set-append_left zs (drop (length zs) old) i (last_of zs) (omega arith))
-          (take-append-le (length zs - 1) (set zs i (last_of zs)) _ (rw length-set (omega arith)));
-      front_length = sym (length-take-le (n - 1) new (omega (arith, as_long)));
-    }
-  where
-    as_long : length new ≡ length old
-    as_long = rw (f, length-set, length-append, length-drop) (omega arith)
+  front : take (length ss - 1) (set (ss ++ rest) i last) ≡ take (length ss - 1) (set ss i last)
+  front =
+      rw (set-append_left ss rest i last h) (take-append-le (length ss - 1) (set ss i last) rest (rw length-set (omega arith)))
+
+  pub firsts_without : firsts (take (length ss - 1) (set (ss ++ rest) i last)) ≡ without i (firsts ss)
+  unfolding without
+  firsts_without = rw (front, firsts_take, firsts_set, firsts_length, first_at ss (length ss - 1) d (omega arith))
+
+  pub seconds_without : seconds (take (length ss - 1) (set (ss ++ rest) i last)) ≡ without i (seconds ss)
+  unfolding without
+  seconds_without = rw (front, seconds_take, seconds_set, seconds_length, second_at ss (length ss - 1) d (omega arith))

@@ -11,17 +11,14 @@ use Rattle.ground.specs.Lent.{on_front}
 use Rattle.ground.specs.Protocol.{Outcome, gives, keeping}
 use Rattle.ground.proofs.Answers.{let_through, goes_on}
 use Rattle.ground.proofs.Bools.{never}
-use Rattle.link.specs.Limits.{no_offset}
 use Rattle.link.specs.Range.{GoodTable}
 use Rattle.link.specs.Refusal.{planner_faults}
 use Rattle.link.specs.Rows.{span_of}
 use Rattle.link.specs.declared.Link.{Link}
 use Rattle.link.proofs.Accepted.{good_room, fine_room}
-use Rattle.quick.specs.Answer.{Said, planning, refusing, said, outcome, quick, first_fit}
+use Rattle.quick.specs.Answer.{Planned, planned, thirteen, Said, planning, refusing, said, outcome, quick, first_fit}
 use Rattle.quick.specs.Loads.{FirstFitLoad}
 use Rattle.quick.specs.Plan.{Progress, rows, stuck, place, placed, all_placed}
-use Rattle.quick.specs.declared.Planned.{Planned}
-use Rattle.quick.specs.declared.Planned.TheVariants.{Plan, Refused}
 use Rattle.quick.proofs.LightLoads.{first_fit_never_thirteen}
 use Rattle.oneslot.specs.Answer.{one_slot}
 use Rattle.oneslot.specs.Plan.{or_moved, settle, settled}
@@ -65,7 +62,7 @@ module _ (k : Link) (ds old : List ℕ) where
         go : (o : Progress) → fitted ≡ o → (new : List ℕ) × (gives planning new ≡ first_fit k ds old)
         go (rows os) f = (on_front os old, goes_on (keeping refusing old) (sym (fine_room k ds (length old) g room)) (rw f))
         go (stuck j) f =
-            absurd (first_fit_never_thirteen k ds old (Refused no_offset j) old
+            absurd (first_fit_never_thirteen k ds old (thirteen j) old
             (goes_on (keeping refusing old) (sym (fine_room k ds (length old) g room)) (rw f)) load j refl)
 
   -- for messages of one slot First Fit's number, P above (3n-2)T - n, is 2n-1 slots
@@ -74,17 +71,17 @@ module _ (k : Link) (ds old : List ℕ) where
 
   module _ (r : Planned) (new : List ℕ) (e : gives (said r) new ≡ one_slot k ds old) where
     -- where First Fit's load is light, a table in range with room for its offsets gets a plan
-    pub light_is_planned : FirstFitLoad k ds → GoodTable k ds → k.size ≡ 1 → length ds ≤ length old → r ≡ Plan
+    pub light_is_planned : FirstFitLoad k ds → GoodTable k ds → k.size ≡ 1 → length ds ≤ length old → r ≡ planned
     unfolding said
     light_is_planned load g s room =
         let w = first_fit_plans load g room in
-        (no_second k ds old r Plan new w.0 e (sym (first_fit_same s w.0 w.1))).0
+        (no_second k ds old r planned new w.0 e (sym (first_fit_same s w.0 w.1))).0
 
     -- so 2n-1 slots are enough
-    pub is_planned : 2 * length ds - 1 ≤ k.period → GoodTable k ds → k.size ≡ 1 → length ds ≤ length old → r ≡ Plan
+    pub is_planned : 2 * length ds - 1 ≤ k.period → GoodTable k ds → k.size ≡ 1 → length ds ≤ length old → r ≡ planned
     is_planned h g s = light_is_planned (one_slot_load h g s) g s
 
-    pub never_thirteen : 2 * length ds - 1 ≤ k.period → (j : ℕ) → r ≡ Refused no_offset j → ⊥
+    pub never_thirteen : 2 * length ds - 1 ≤ k.period → (j : ℕ) → r ≡ thirteen j → ⊥
     never_thirteen h j c =
         let w = (thirteen_exactly k ds old r new e j).0 c in
         let p = is_planned h w.table w.is_one_slot w.room in

@@ -8,6 +8,7 @@ pub mod Serving
 pub mod Opening
 pub mod Fitting
 pub mod Settling
+pub mod Coming
 pub mod MakingRoom
 pub mod Finding
 pub mod Promises

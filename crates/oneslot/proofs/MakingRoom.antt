@@ -2,33 +2,23 @@
 use mathlib.Core.Path.{◌≡◌, sym, ◌∙◌}
 use mathlib.Core.Bool.{Bool, true, false, and-false}
 use mathlib.Core.List.{List, [], ◌∷◌, ◌++◌}
-use lib.ListN.{length, take, set, length-append}
-use lib.Seq.{take-suc-set, take-append_seam}
-use native.Mathlib.Numerals.{add-one}
+use lib.ListN.{length}
 use Prim.Native.Nat.{ℕ, ◌+◌, ◌≤◌, ◌<◌}
 use native.Mathlib.Omega.{arith}
+use Rattle.std.proofs.lemmas.List.{map-append}
+use borrow.Author.Count.{below_more}
 use borrow.Author.Tests.{lt-ltb, le-ltb}
 use Rattle.ground.specs.Least.{least, least_from}
-use Rattle.ground.proofs.Hunting.{Walked, from_before, from_least, walk_ends, walk_finds}
+use Rattle.ground.proofs.Hunting.{Walked, from_before, from_least, walk_on, walk_ends, walk_finds}
 use Rattle.ground.proofs.Minimum.{least_cong, some_none}
 use Rattle.link.specs.Rows.{second}
+use Rattle.link.specs.Starts.{firsts, seconds}
+use Rattle.link.specs.declared.Start.{Start}
+use Rattle.link.proofs.Columns.{firsts_length, seconds_length}
 use Rattle.quick.specs.Ways.{open_to}
-use Rattle.oneslot.specs.Moves.{opens, move_of}
+use Rattle.oneslot.specs.Moves.{None, Row, opens, move_of}
 use Rattle.oneslot.specs.Others.{open_beside, fits}
-use Rattle.oneslot.specs.declared.Move.TheVariants.{None, Row}
 use Rattle.oneslot.proofs.Opening.{open_more}
-
--- an array that holds the n elements of zs, and then v behind them
-pub record Added (n : ℕ) (zs : List ℕ) (v : ℕ) (new : List ℕ) : Type 0 where
-  pub front : take (n + 1) new ≡ zs ++ (v ∷ [])
-  pub front_length : n + 1 ≡ length (take (n + 1) new)
-
-pub added : (n : ℕ) (zs rest mid : List ℕ) → length zs ≡ n → n < length mid → mid ≡ zs ++ rest → (v : ℕ) (new : List ℕ) → new ≡ set mid n v
-    → Added n zs v new
-added n zs rest mid e h f v new g = record { front = front; front_length = rw (front, length-append) (omega arith) }
-  where
-    front : take (n + 1) new ≡ zs ++ (v ∷ [])
-    front = rw (g, add-one, take-suc-set mid n v h, f, ← e, take-append_seam)
 
 -- e is the delay of the row that is moved, d the new row's
 abbrev pub room_at : ℕ → ℕ → ℕ → ℕ → List ℕ → List ℕ → ℕ → Bool
@@ -50,7 +40,7 @@ module _ (p l e d : ℕ) (xs ys : List ℕ) (same : length xs ≡ length ys) whe
   shut_room x h f = shut_none x (λ y q. rw f)
 
   -- with no offset open to the new row there is no room, wherever the other goes
-  pub no_room : (i : ℕ) → p ≤ least_from (open_to p l d xs ys 1) 0 p → None ≡ move_of p (fits p l e d xs ys) i
+  pub no_room : (i : ℕ) → p ≡ least_from (open_to p l d xs ys 1) 0 p → None ≡ move_of p (fits p l e d xs ys) i
   unfolding move_of fits
   no_room i h =
       rw (some_none (room_at p l e d xs ys) p (λ x q. shut_none x (λ y m. rw (shut_beside x y (shut y m), and-false))))
@@ -58,28 +48,44 @@ module _ (p l e d : ℕ) (xs ys : List ℕ) (same : length xs ≡ length ys) whe
       shut : (y : ℕ) → y < p → open_to p l d xs ys 1 y ≡ false
       shut y m = from_before (open_to p l d xs ys 1) 0 p y (omega arith) (omega arith)
 
-  module _ (x : ℕ) (w : Walked (open_to p l e xs ys 1) (room_at p l e d xs ys) p x) where
-    pub none_left : (i : ℕ) → p ≤ x → None ≡ move_of p (fits p l e d xs ys) i
-    unfolding move_of
-    none_left i h = rw (some_none (room_at p l e d xs ys) p (walk_ends _ (room_at p l e d xs ys) p x w h))
+  -- x is the next open offset from one on before which none makes room
+  module _ (from x : ℕ) (f : x ≡ least_from (open_to p l e xs ys 1) from p) (before : (i : ℕ) → i < from → room_at p l e d xs ys i ≡ false)
+    where
+      walked : Walked (open_to p l e xs ys 1) (room_at p l e d xs ys) p x
+      walked = walk_on (open_to p l e xs ys 1) (room_at p l e d xs ys) p shut_room from x f before
 
-    -- at an open offset it goes by the offsets that are open beside it
-    module _
-        (h : x < p) (a y : ℕ) (g : a ≡ least_from (open_to p l d xs ys 1) 0 p) (f : y ≡ least_from (open_beside p l e d xs ys x) a p)
-      where
-        before : (z : ℕ) → z < a → open_beside p l e d xs ys x z ≡ false
-        before z q = shut_beside x z (from_before (open_to p l d xs ys 1) 0 p z (omega arith) (omega (arith, g)))
+      pub none_left : (i : ℕ) → p ≤ x → None ≡ move_of p (fits p l e d xs ys) i
+      unfolding move_of
+      none_left i h = rw (some_none (room_at p l e d xs ys) p (walk_ends _ (room_at p l e d xs ys) p x walked h))
 
-        least_beside : least (fits p l e d xs ys x) p ≡ y
-        unfolding fits
-        least_beside = least_cong _ _ p (λ z q. rw (w.here h)) ∙ sym (from_least (open_beside p l e d xs ys x) a p before) ∙ sym f
+      -- at an open offset it goes by the offsets that are open beside it
+      module _
+          (h : x < p) (a y : ℕ) (g : a ≡ least_from (open_to p l d xs ys 1) 0 p) (k : y ≡ least_from (open_beside p l e d xs ys x) a p)
+        where
+          shut_before : (z : ℕ) → z < a → open_beside p l e d xs ys x z ≡ false
+          shut_before z q = shut_beside x z (from_before (open_to p l d xs ys 1) 0 p z (omega arith) (omega (arith, g)))
 
-        pub not_here : p ≤ y → room_at p l e d xs ys x ≡ false
-        unfolding opens
-        not_here o = rw least_beside (le-ltb y p o)
+          least_beside : least (fits p l e d xs ys x) p ≡ y
+          unfolding fits
+          least_beside =
+              least_cong _ _ p (λ z q. rw (walked.here h)) ∙ sym (from_least (open_beside p l e d xs ys x) a p shut_before) ∙ sym k
 
-        pub room_here : (i : ℕ) → y < p → Row i x y ≡ move_of p (fits p l e d xs ys) i
-        unfolding move_of opens
-        room_here i o =
-            let here : room_at p l e d xs ys x ≡ true = rw least_beside (lt-ltb y p o) in
-            rw (walk_finds _ (room_at p l e d xs ys) p x w here, lt-ltb x p h, least_beside)
+          pub none_here : p ≤ y → (i : ℕ) → i < x + 1 → room_at p l e d xs ys i ≡ false
+          unfolding opens
+          none_here o = below_more _ x walked.before (rw least_beside (le-ltb y p o))
+
+          pub room_here : (i : ℕ) → y < p → Row i x y ≡ move_of p (fits p l e d xs ys) i
+          unfolding move_of opens
+          room_here i o =
+              let here : room_at p l e d xs ys x ≡ true = rw least_beside (lt-ltb y p o) in
+              rw (walk_finds _ (room_at p l e d xs ys) p x walked here, lt-ltb x p h, least_beside)
+
+-- the code's list of starts
+pub same_length : (ss : List Start) → length (firsts ss) ≡ length (seconds ss)
+same_length ss = firsts_length ss ∙ sym (seconds_length ss)
+
+-- with the row that is moved behind it
+pub moved_behind : (p l e d : ℕ) (ss : List Start) (x : ℕ) (t : Start) → (t.first ≡ x) × (t.second ≡ second p e x)
+    → open_to p l d (firsts (ss ++ (t ∷ []))) (seconds (ss ++ (t ∷ []))) 1 ≡ open_beside p l e d (firsts ss) (seconds ss) x
+unfolding open_beside firsts seconds
+moved_behind p l e d ss x t f = rw (map-append, map-append, f.0, f.1)

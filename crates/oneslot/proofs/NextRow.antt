@@ -14,11 +14,9 @@ use Rattle.ground.proofs.Bools.{clash, is_false}
 use Rattle.ground.proofs.Minimum.{least_at, least_cong, some_at, some_has, some_none, none_has, least_low}
 use Rattle.link.specs.Rows.{free}
 use Rattle.quick.specs.Plan.{Progress, rows, stuck, free_at, place}
-use Rattle.oneslot.specs.Moves.{moved, serves, least_move}
+use Rattle.oneslot.specs.Moves.{Move, None, Row, moved, serves, least_move}
 use Rattle.oneslot.specs.Plan.{made, or_moved, settle}
 use Rattle.oneslot.specs.Right.{Serves, LeastMove, NoneFree, Next, takes, moves}
-use Rattle.oneslot.specs.declared.Move.{Move}
-use Rattle.oneslot.specs.declared.Move.TheVariants.{None, Row}
 use Rattle.oneslot.proofs.Choosing.{Chooses, chooses, only_choice}
 use Rattle.oneslot.proofs.SoFar.{each_free, free_each, rows_so_far, so_far_rows}
 

@@ -6,6 +6,8 @@ use Prim.Native.Nat.{ℕ, ◌≤◌, ◌<◌}
 use native.Mathlib.Omega.{arith}
 use lib.ListN.{length, take}
 use lib.Seq.{take-length}
+use Rattle.std.specs.Prelude.{Err}
+use Rattle.ground.specs.declared.Fault.{Fault as Refused}
 use Rattle.ground.specs.Judging.{first}
 use Rattle.ground.specs.Lent.{on_front}
 use Rattle.ground.specs.Protocol.{Outcome, gives, keeping}
@@ -16,12 +18,10 @@ use Rattle.link.specs.Limits.{no_offset}
 use Rattle.link.specs.Range.{GoodTable}
 use Rattle.link.specs.Rows.{span_of, Clear}
 use Rattle.link.specs.declared.Link.{Link}
-use Rattle.quick.specs.Answer.{Verdict, Said, planning, refusing, said, outcome}
+use Rattle.quick.specs.Answer.{Planned, planned, thirteen, Verdict, Said, planning, refusing, said, outcome}
 use Rattle.quick.specs.Plan.{Progress, rows}
-use Rattle.quick.specs.declared.Planned.{Planned}
-use Rattle.quick.specs.declared.Planned.TheVariants.{Plan, Refused}
-use Rattle.quick.proofs.Promises.{unsaid, again}
-use Rattle.oneslot.specs.Answer.{faults, one_slot}
+use Rattle.quick.proofs.Saying.{unsaid, again}
+use Rattle.oneslot.specs.Answer.{size_refused, faults, one_slot}
 use Rattle.oneslot.specs.Limits.{not_one_slot}
 use Rattle.oneslot.specs.Plan.{settled, all_settled}
 use Rattle.oneslot.specs.Right.{Reached, NoWay, GivenPlan, NotLetIn}
@@ -62,11 +62,11 @@ module _ (k : Link) (ds old : List ℕ) where
   module _ (r : Planned) (new : List ℕ) (e : gives (said r) new ≡ one_slot k ds old) where
     -- rows that came in right, in a table that is let through, are the plan
     right_plan : Good k ds (length old) → (os : List ℕ) → length os ≡ length ds → Reached k.period (span_of k) ds os
-        → (r ≡ Plan) × (new ≡ on_front os old)
+        → (r ≡ planned) × (new ≡ on_front os old)
     unfolding outcome said
     right_plan w os n s =
         let whole = reached_is k.period (span_of k) ds w.table.period_low os s (omega arith) in
-        no_second k ds old r Plan new (on_front os old) e
+        no_second k ds old r planned new (on_front os old) e
         (answers w (subst (λ (m : ℕ). settled k.period (span_of k) ds m ≡ rows os) n whole) refl)
 
     -- the three ways to an answer s: a fault, a plan, and 13
@@ -94,11 +94,11 @@ module _ (k : Link) (ds old : List ℕ) where
             row w (says k.period (span_of k) ds w.table.period_low (length ds) (omega arith)) g
 
     -- a plan is given exactly when each row came in right; then the offsets are clear, and stand in the list, whose tail is kept
-    pub plan_is_right : (r ≡ Plan) ↔ GivenPlan k ds old new
+    pub plan_is_right : (r ≡ planned) ↔ GivenPlan k ds old new
     unfolding said
-    plan_is_right = (λ c. there (heard Plan c), back)
+    plan_is_right = (λ c. there (heard planned c), back)
       where
-        there : Heard Plan → GivenPlan k ds old new
+        there : Heard planned → GivenPlan k ds old new
         there (fault n p f g) = never (cc (ap verdict g))
         there (one_not w j h s g) = never (cc (ap verdict g))
         there (all_in w os n s g) =
@@ -114,51 +114,51 @@ module _ (k : Link) (ds old : List ℕ) where
               clear = right_clear w.table.period_low os n s;
             }
 
-        back : GivenPlan k ds old new → r ≡ Plan
+        back : GivenPlan k ds old new → r ≡ planned
         back w =
             (right_plan (record { table = w.table; enough = w.room; is_one_slot = w.is_one_slot }) w.offsets w.as_many w.right).0
 
     -- "Refuse with 13 exactly when no such single move exists"
-    pub thirteen_exactly : (j : ℕ) → (r ≡ Refused no_offset j) ↔ NotLetIn k ds old j
+    pub thirteen_exactly : (j : ℕ) → (r ≡ thirteen j) ↔ NotLetIn k ds old j
     unfolding outcome said
-    thirteen_exactly j = (λ c. there (heard (Refused no_offset j) c), back)
+    thirteen_exactly j = (λ c. there (heard (thirteen j) c), back)
       where
-        there : Heard (Refused no_offset j) → NotLetIn k ds old j
+        there : Heard (thirteen j) → NotLetIn k ds old j
         there (fault n p f g) = absurd (no_thirteen k ds (length old) n p f (sym (ap number g)))
         there (all_in w os n s g) = never (cc (ap verdict g))
         there (one_not w i h s g) =
             let same : j ≡ i = ap (λ (x : Answer). x.says.place) g in
             rw same (record { table = w.table; is_one_slot = w.is_one_slot; room = w.enough; row = h; stuck = s })
 
-        back : NotLetIn k ds old j → r ≡ Refused no_offset j
+        back : NotLetIn k ds old j → r ≡ thirteen j
         back w =
-            (no_second k ds old r (Refused no_offset j) new old e
+            (no_second k ds old r (thirteen j) new old e
             (answers (record { table = w.table; enough = w.room; is_one_slot = w.is_one_slot })
             (stuck_is k.period (span_of k) ds w.table.period_low j (length ds) w.row (omega arith) w.stuck) refl)).0
 
     -- "25, after 12's place in the order, if the size isn't 1": everything else is in range, and there is room for the offsets
-    pub twenty_five_exactly : (r ≡ Refused not_one_slot 0) ↔ (GoodTable k ds × (length ds ≤ length old) × (k.size ≡ 1 → ⊥))
+    pub twenty_five_exactly : (r ≡ size_refused) ↔ (GoodTable k ds × (length ds ≤ length old) × (k.size ≡ 1 → ⊥))
     unfolding one_slot said
-    twenty_five_exactly = (λ c. there (heard (Refused not_one_slot 0) c), back)
+    twenty_five_exactly = (λ c. there (heard size_refused c), back)
       where
-        there : Heard (Refused not_one_slot 0) → GoodTable k ds × (length ds ≤ length old) × (k.size ≡ 1 → ⊥)
+        there : Heard size_refused → GoodTable k ds × (length ds ≤ length old) × (k.size ≡ 1 → ⊥)
         there (fault n p f g) =
             let same : not_one_slot ≡ n = ap number g in
             fault_of_size k ds (length old) p (rw same f)
         there (all_in w os n t g) = never (cc (ap verdict g))
         there (one_not w j h t g) = let m : not_one_slot ≡ no_offset = ap number g in absurd (omega arith)
 
-        back : GoodTable k ds × (length ds ≤ length old) × (k.size ≡ 1 → ⊥) → r ≡ Refused not_one_slot 0
+        back : GoodTable k ds × (length ds ≤ length old) × (k.size ≡ 1 → ⊥) → r ≡ size_refused
         back w =
-            (no_second k ds old r (Refused not_one_slot 0) new old e
+            (no_second k ds old r size_refused new old e
             (refused (keeping refusing old) _ (sym (size_fault k ds (length old) w.0 w.1 w.2)))).0
 
     -- "on refusal nothing is written"
-    pub refusal_keeps : (n q : ℕ) → r ≡ Refused n q → new ≡ old
+    pub refusal_keeps : (x : Refused) → r ≡ Err x → new ≡ old
     unfolding said
-    refusal_keeps n q c = there (heard (Refused n q) c)
+    refusal_keeps x c = there (heard (Err x) c)
       where
-        there : Heard (Refused n q) → new ≡ old
+        there : Heard (Err x) → new ≡ old
         there (fault m p f g) = ap list g
         there (all_in w os m s g) = never (cc (ap verdict g))
         there (one_not w j h s g) = ap list g

@@ -1,6 +1,5 @@
 -- How the code's walk over the rows is the definition's. Assumes nothing.
 use mathlib.Core.Path.{◌≡◌, refl, sym, ap, ◌∙◌, subst}
-use mathlib.Core.Bool.{Bool}
 use mathlib.Core.List.{List}
 use Prim.Native.Nat.{ℕ, ◌+◌, ◌≤◌, ◌<◌}
 use native.Mathlib.Omega.{arith}
@@ -17,12 +16,10 @@ use Rattle.link.specs.Rows.{second}
 use Rattle.quick.specs.Plan.{Progress, rows, stuck, place}
 use Rattle.quick.specs.Ways.{Ways, open_to}
 use Rattle.quick.proofs.Standing.{Standing, none_stands, put, least_free}
-use Rattle.oneslot.specs.Moves.{serves, least_move}
+use Rattle.oneslot.specs.Moves.{Move, None, Row, serves, least_move}
 use Rattle.oneslot.specs.Others.{can_move}
 use Rattle.oneslot.specs.Plan.{made, or_moved, settle, settled}
 use Rattle.oneslot.specs.Right.{Reached}
-use Rattle.oneslot.specs.declared.Move.{Move}
-use Rattle.oneslot.specs.declared.Move.TheVariants.{None, Row}
 use Rattle.oneslot.proofs.Choosing.{Chosen, taken, least_move_cong}
 use Rattle.oneslot.proofs.Fitting.{can_move_serves}
 use Rattle.oneslot.proofs.SoFar.{RowFree}
@@ -36,13 +33,6 @@ pub record State (p l : ℕ) (ds : List ℕ) (j : ℕ) (xs ys : List ℕ) : Type
 pub none_yet : (p l : ℕ) (ds xs ys : List ℕ) → length xs ≡ max_rows → length ys ≡ max_rows → State p l ds 0 xs ys
 unfolding settled
 none_yet p l ds xs ys e f = record { standing = none_stands p ds xs ys e f; done = refl }
-
--- a row that is found to give way is one of the j rows
-pub row_low : {p l : ℕ} {ds : List ℕ} {j : ℕ} {xs ys : List ℕ} → State p l ds j xs ys → j ≤ length ds → length ds ≤ max_rows
-    → (q : ℕ → ℕ → ℕ → Bool) → {m : Move} {i x y : ℕ} → m ≡ least_move p q (length (take j xs)) → m ≡ Row i x y → i < j
-row_low {p} {l} {ds} {j} {xs} s h k q {m} {i} {x} {y} e f =
-    let as_many = length-take-le j xs (omega (arith, s.standing.xs_length)) in
-    omega (arith, as_many, (taken p q (length (take j xs)) (Row i x y) (sym e ∙ f)).row)
 
 -- what `settled` gives came in right
 came : (p l : ℕ) (ds os : List ℕ) (n : ℕ) {o : Progress} → Says p l ds n o → o ≡ rows os → Reached p l ds os

@@ -14,11 +14,9 @@ use Rattle.link.specs.Refusal.{link_faults, row_faults, room_faults}
 use Rattle.link.specs.Rows.{second, start, hits, either, free, blocked}
 use Rattle.link.specs.Slots.{uses, meets}
 use Rattle.link.specs.declared.Link.{Link}
-use Rattle.quick.specs.Answer.{planning, said, outcome, quick, first_fit}
+use Rattle.quick.specs.Answer.{Planned, planned, thirteen, planning, said, outcome, quick, first_fit}
 use Rattle.quick.specs.Plan.{free_at, place, placed}
-use Rattle.quick.specs.declared.Planned.{Planned}
-use Rattle.quick.specs.declared.Planned.TheVariants.{Plan, Refused}
-use Rattle.oneslot.specs.Answer.{size_faults, one_slot}
+use Rattle.oneslot.specs.Answer.{size_refused, size_faults, one_slot}
 use Rattle.oneslot.specs.Moves.{all_clear, serves, opens, move_of, gives_way, least_move}
 use Rattle.oneslot.specs.Plan.{or_moved, settle, settled}
 use Rattle.oneslot.specs.Right.{NoneFree, Next, GivenPlan, NotLetIn, OthersStay}
@@ -43,21 +41,21 @@ abbrev pub plan₁ : List ℕ
 plan₁ = 2 ∷ 1 ∷ 0 ∷ 3 ∷ 9 ∷ []
 
 -- 4, 1, (0 2 1 1): First Fit gives 13 at row 2
-pub let_in : gives (said Plan) plan₁ ≡ one_slot (link 4 1) ds₁ old
+pub let_in : gives (said planned) plan₁ ≡ one_slot (link 4 1) ds₁ old
 unfolding said one_slot outcome settled settle or_moved place free_at all_clear blocked serves opens move_of gives_way least_move free
     hits first
     and_then link_faults row_faults room_faults size_faults start outside either second uses meets least one_more
 let_in = refl
 
 -- 2, 1, (0 1): wherever the two rows stand, they meet in one of the crossings
-pub gives_up : gives (said (Refused 13 1)) old ≡ one_slot (link 2 1) ds₂ old
+pub gives_up : gives (said (thirteen 1)) old ≡ one_slot (link 2 1) ds₂ old
 unfolding said one_slot outcome settled settle or_moved place free_at all_clear blocked serves opens move_of gives_way least_move free
     hits first
     and_then link_faults row_faults room_faults size_faults start outside either second uses meets least one_more
 gives_up = refl
 
 -- 4, 2, (0 1): the size isn't 1
-pub two_slots : gives (said (Refused 25 0)) old ≡ one_slot (link 4 2) ds₂ old
+pub two_slots : gives (said size_refused) old ≡ one_slot (link 4 2) ds₂ old
 unfolding said one_slot outcome settled settle or_moved place free_at all_clear blocked serves opens move_of gives_way least_move free
     hits first
     and_then link_faults row_faults room_faults size_faults start outside either second uses meets least one_more
@@ -108,23 +106,23 @@ unfolding free hits start either second uses meets least one_more
 no_one = all_stay 4 1 ds₁ three_in 3 (omega arith) refl comes_in
 
 pub right : GivenPlan (link 4 1) ds₁ old plan₁
-right = (plan_is_right (link 4 1) ds₁ old Plan plan₁ let_in).0 refl
+right = (plan_is_right (link 4 1) ds₁ old planned plan₁ let_in).0 refl
 
 -- two answers to the same table are the same
-pub only_plan : (r : Planned) (new : List ℕ) → gives (said r) new ≡ one_slot (link 4 1) ds₁ old → (r ≡ Plan) × (new ≡ plan₁)
-only_plan r new e = no_second (link 4 1) ds₁ old r Plan new plan₁ e let_in
+pub only_plan : (r : Planned) (new : List ℕ) → gives (said r) new ≡ one_slot (link 4 1) ds₁ old → (r ≡ planned) × (new ≡ plan₁)
+only_plan r new e = no_second (link 4 1) ds₁ old r planned new plan₁ e let_in
 
-pub right_rows_are_planned : (r : Planned) → gives (said r) plan₁ ≡ one_slot (link 4 1) ds₁ old → r ≡ Plan
+pub right_rows_are_planned : (r : Planned) → gives (said r) plan₁ ≡ one_slot (link 4 1) ds₁ old → r ≡ planned
 right_rows_are_planned r e = (plan_is_right (link 4 1) ds₁ old r plan₁ e).1 right
 
 pub no_move : NotLetIn (link 2 1) ds₂ old 1
-no_move = (thirteen_exactly (link 2 1) ds₂ old (Refused 13 1) old gives_up 1).0 refl
+no_move = (thirteen_exactly (link 2 1) ds₂ old (thirteen 1) old gives_up 1).0 refl
 
-pub is_refused : (r : Planned) (new : List ℕ) → gives (said r) new ≡ one_slot (link 2 1) ds₂ old → r ≡ Refused 13 1
+pub is_refused : (r : Planned) (new : List ℕ) → gives (said r) new ≡ one_slot (link 2 1) ds₂ old → r ≡ thirteen 1
 is_refused r new e = (thirteen_exactly (link 2 1) ds₂ old r new e 1).1 no_move
 
-pub kept : (new : List ℕ) → gives (said (Refused 13 1)) new ≡ one_slot (link 2 1) ds₂ old → new ≡ old
-kept new e = refusal_keeps (link 2 1) ds₂ old (Refused 13 1) new e 13 1 refl
+pub kept : (new : List ℕ) → gives (said (thirteen 1)) new ≡ one_slot (link 2 1) ds₂ old → new ≡ old
+kept new e = refusal_keeps (link 2 1) ds₂ old (thirteen 1) new e _ refl
 
 -- the rows ds₂ in each period and size
 in_range : (p t : ℕ) → (1 ≤ t) × (t ≤ p) × (p ≤ 1000000) → GoodTable (link p t) ds₂
@@ -139,11 +137,11 @@ in_range p t h =
       delays = no_move.table.delays;
     }
 
-pub twenty_five : (r : Planned) (new : List ℕ) → gives (said r) new ≡ one_slot (link 4 2) ds₂ old → r ≡ Refused 25 0
+pub twenty_five : (r : Planned) (new : List ℕ) → gives (said r) new ≡ one_slot (link 4 2) ds₂ old → r ≡ size_refused
 twenty_five r new e =
     (twenty_five_exactly (link 4 2) ds₂ old r new e).1 (in_range 4 2 (omega arith), omega arith, λ s. omega arith)
 
-pub never_twenty_five : (r : Planned) (new : List ℕ) → gives (said r) new ≡ one_slot (link 4 1) ds₂ old → r ≡ Refused 25 0 → ⊥
+pub never_twenty_five : (r : Planned) (new : List ℕ) → gives (said r) new ≡ one_slot (link 4 1) ds₂ old → r ≡ size_refused → ⊥
 never_twenty_five r new e c =
     ((twenty_five_exactly (link 4 1) ds₂ old r new e).0 c).2 refl
 
@@ -152,10 +150,10 @@ same_plan = first_fit_same (link 3 1) ds₂ old refl (0 ∷ 1 ∷ 9 ∷ 9 ∷ 9 
 
 module _ (r : Planned) (new : List ℕ) where
   -- two rows and three offsets: 3 is 2n-1
-  pub two_rows : gives (said r) new ≡ one_slot (link 3 1) ds₂ old → r ≡ Plan
+  pub two_rows : gives (said r) new ≡ one_slot (link 3 1) ds₂ old → r ≡ planned
   two_rows e = is_planned (link 3 1) ds₂ old r new e (omega arith) (in_range 3 1 (omega arith)) refl (omega arith)
 
   -- two rows whatever their delays, in range or not, and whatever the lent list
   pub three_offsets : (a b : ℕ) (list : List ℕ) → gives (said r) new ≡ one_slot (link 3 1) (a ∷ b ∷ []) list
-      → (j : ℕ) → r ≡ Refused 13 j → ⊥
+      → (j : ℕ) → r ≡ thirteen j → ⊥
   three_offsets a b list e = never_thirteen (link 3 1) (a ∷ b ∷ []) list r new e (omega arith)

@@ -1,10 +1,19 @@
 -- One earlier row moved to let a new one in: which moves serve, and which of them is taken. The period is p, the least distance of two
 -- starts l. os has the offsets of the rows so far; the new row is the one after them.
-use Rattle.std.specs.Prelude.{Bool, not, cond, List, [], ◌∷◌, ◌++◌, ℕ, length, set}
+use Rattle.std.specs.Prelude.{Bool, not, cond, List, [], ◌∷◌, ◌++◌, ℕ, length, set, Option, Some, None as Nothing}
 use Rattle.ground.specs.Least.{least, some}
 use Rattle.link.specs.Rows.{blocked}
-use Rattle.oneslot.specs.declared.Move.{Move}
-use Rattle.oneslot.specs.declared.Move.TheVariants.{None, Row}
+use Rattle.oneslot.specs.declared.Move.{Move as RowMove}
+
+-- an earlier row that gives way, its new offset, and the new row's
+pub data Move : Type 0 where
+  None : Move
+  Row : ℕ → ℕ → ℕ → Move
+
+-- the code's form of it
+abbrev pub as_move : Option RowMove → Move
+as_move Nothing = None
+as_move (Some m) = Row m.row m.to m.offset
 
 -- row i goes to x, and the new row gets y: no other row is moved
 abbrev pub moved : List ℕ → ℕ → ℕ → ℕ → List ℕ

@@ -1,6 +1,5 @@
 -- What the inner functions go by: lists of starts, xs in crossing 1 and ys in crossing 2, and the code's tests over them.
 use Rattle.std.specs.Prelude.{Bool, ◌&&◌, List, [], ◌∷◌, ◌++◌, ℕ, ◌-◌, length, get_or, take, set}
-use Rattle.ground.specs.Lent.{on_front}
 use Rattle.link.specs.Rows.{second}
 use Rattle.quick.specs.Ways.{open_to}
 
@@ -11,10 +10,6 @@ last_of zs = get_or zs (length zs - 1) 0
 -- what the rows but row i have, the last one in its place
 unfoldable pub without : ℕ → List ℕ → List ℕ
 without i zs = take (length zs - 1) (set zs i (last_of zs))
-
--- the same in front of a lent list, with one element of no use behind it
-unfoldable pub left_out : ℕ → List ℕ → List ℕ → List ℕ
-left_out i zs old = set (on_front zs old) i (last_of zs)
 
 -- open to a row of delay d at y: rows with the starts xs and ys, and one of delay e at x
 unfoldable pub open_beside : ℕ → ℕ → ℕ → ℕ → List ℕ → List ℕ → ℕ → ℕ → Bool

@@ -1,9 +1,7 @@
 -- How the rows of a table ds get their offsets, one after the other: p is the period, l the least distance of two starts.
 use Rattle.std.specs.Prelude.{List, [], ℕ, zero, suc, length}
 use Rattle.quick.specs.Plan.{Progress, rows, stuck, place}
-use Rattle.oneslot.specs.Moves.{moved, serves, least_move}
-use Rattle.oneslot.specs.declared.Move.{Move}
-use Rattle.oneslot.specs.declared.Move.TheVariants.{None, Row}
+use Rattle.oneslot.specs.Moves.{Move, None, Row, moved, serves, least_move}
 
 -- row j has no place, or the move gives it one
 abbrev pub made : List ℕ → ℕ → Move → Progress

@@ -1,50 +1,35 @@
-use Prim.Native.Nat.{◌+◌}
+use Rattle.std.specs.Prelude.{◌≡◌, None}
 use native.Mathlib.Omega.{arith}
-use Rattle.ground.proofs.Hunting.{walk_begins, walk_goes_on, from_low}
+use borrow.Author.Rules.{rules}
+use Rattle.ground.proofs.Hunting.{from_low}
+use Rattle.link.specs.Starts.{firsts, seconds}
 use Rattle.quick.specs.Ways.{open_to}
-use Rattle.oneslot.proofs.MakingRoom.{shut_room, no_room, none_left, not_here, room_here}
+use Rattle.oneslot.proofs.MakingRoom.{no_room, none_left, none_here, room_here, same_length, moved_behind}
 use Rattle.oneslot.proofs.make_room.Goals as goal
 
-pub first_free-least-requires : goal.first_free-least-requires
-first_free-least-requires c = record { ways = c.requires.ways; from_le_count = (omega arith, c.requires.firsts_len.0) }
+pub returns-in_err-least : goal.returns-in_err-least
+returns-in_err-least c =
+    let e : c.from_residual.result ≡ None = search rules in
+    rw e (no_room _ _ _ _ _ _ (same_length _) _ c.in_err-least.ensures)
 
-pub returns-then-least-period : goal.returns-then-least-period
-returns-then-least-period c = no_room _ _ _ _ _ _ c.requires.firsts_len.0 _ (rw (← c.first_free-least.ensures) c.if-least-period.true)
-
-pub first_free-to-requires : goal.first_free-to-requires
-first_free-to-requires c = record { ways = c.requires.ways; from_le_count = (omega arith, c.requires.firsts_len.0) }
-
-pub loop-to-init : goal.loop-to-init
-loop-to-init c = walk_begins _ _ _ (shut_room _ _ _ _ _ _ c.requires.firsts_len.0) _ c.first_free-to.ensures
-
-pub beside-offset-requires : goal.beside-offset-requires
-beside-offset-requires c = record { ways = (c.requires.ways, omega arith); firsts_len = c.requires.firsts_len }
-
-pub returns-then-offset-period : goal.returns-then-offset-period
-returns-then-offset-period c =
-    let at_least = c.first_free-least.ensures in
-    room_here _ _ _ _ _ _ c.requires.firsts_len.0 c.loop-to.to c.loop-to.invariant
-    (omega arith) _ _ at_least c.beside-offset.ensures _ c.if-offset-period.true
-
-pub overflow_add-to : goal.overflow_add-to
-overflow_add-to c = omega (arith, c.requires.ways.period)
-
-pub first_free-to-requires-in-loop-to : goal.first_free-to-requires-in-loop-to
-first_free-to-requires-in-loop-to c = record { ways = c.requires.ways; from_le_count = (omega arith, c.requires.firsts_len.0) }
+pub returns-in-Some-beside : goal.returns-in-Some-beside
+returns-in-Some-beside c =
+    let offset = rw (moved_behind _ _ _ _ _ c.in-Some.to _ c.start-moved.ensures) at c.in-Some-beside.ensures.0 in
+    room_here _ _ _ _ _ _ (same_length _) c.loop-to.from _ c.in-Some.ensures.0 c.loop-to.invariant.1 c.in-Some.ensures.1
+    _ _ c.in_ok-least.ensures.0 offset _ c.in-Some-beside.ensures.1
 
 pub loop-to-smaller : goal.loop-to-smaller
 loop-to-smaller c =
-    let opened = open_to c.args.period c.args.span c.args.moving c.args.firsts.now c.args.seconds.now 1 in
-    omega (arith, from_low opened (c.loop-to.to + 1) c.args.period (omega arith), c.first_free-to-in-loop-to.ensures)
+    let opened = open_to c.args.circle.period c.args.circle.span c.args.moving (firsts c.args.starts.now) (seconds c.args.starts.now) 1 in
+    omega (arith, from_low opened c.loop-to.from c.args.circle.period c.loop-to.invariant.0, c.in-Some.ensures)
 
 pub loop-to-preserved : goal.loop-to-preserved
 loop-to-preserved c =
-    let at_least = c.first_free-least.ensures in
-    let none = not_here _ _ _ _ _ _ c.requires.firsts_len.0 c.loop-to.to c.loop-to.invariant
-    (omega arith) _ _ at_least c.beside-offset.ensures
-    c.if-offset-period.false in
-    walk_goes_on _ _ _ (shut_room _ _ _ _ _ _ c.requires.firsts_len.0) c.loop-to.to _ c.loop-to.invariant none
-    c.first_free-to-in-loop-to.ensures
+    let none = rw (moved_behind _ _ _ _ _ c.in-Some.to _ c.start-moved.ensures) at c.in_default-beside.ensures in (
+      omega (arith, c.in-Some.ensures),
+      none_here _ _ _ _ _ _ (same_length _) c.loop-to.from _ c.in-Some.ensures.0 c.loop-to.invariant.1
+          c.in-Some.ensures.1 _ _ c.in_ok-least.ensures.0 none (omega arith),
+    )
 
 pub returns : goal.returns
-returns c = none_left _ _ _ _ _ _ c.requires.firsts_len.0 c.loop-to.to c.loop-to.invariant _ (omega arith)
+returns c = none_left _ _ _ _ _ _ (same_length _) c.loop-to.from _ c.in_default.ensures c.loop-to.invariant.1 _ (omega arith)

@@ -1,5 +1,7 @@
 -- A fault of the judging is the answer; else the planner goes by each offset of the period.
+use Rattle.std.specs.Prelude.{◌≡◌, Err}
 use mathlib.Core.Path.{sym}
+use borrow.Author.Rules.{rules}
 use Rattle.quick.specs.Answer.{said}
 use Rattle.quick.proofs.Entries.{each_offset}
 use Rattle.ground.proofs.Answers.{refused, goes_on}
@@ -9,14 +11,18 @@ use Rattle.oneslot.proofs.one_slot.Goals as goal
 
 pub plan-requires : goal.plan-requires
 plan-requires c =
-    let g = good_one _ _ _ (sym c.in-Fine.ensures) in
-    rw c.span.ensures record { delays_len_bound = (g.table.rows_high, g.enough); ways = each_offset _ _ g.table }
+    let g = good_one _ _ _ (sym c.in_ok-judge.ensures) in
+    rw (c.circle.ensures.0, c.circle.ensures.1) record {
+      delays_len_bound = (g.table.rows_high, g.enough);
+      ways = each_offset _ _ g.table;
+    }
 
-pub returns-in-Fault : goal.returns-in-Fault
+pub returns-in_err-judge : goal.returns-in_err-judge
 unfolding said one_slot
-returns-in-Fault c = refused _ _ (sym c.in-Fault.ensures)
+returns-in_err-judge c =
+    let e : c.from_residual.result ≡ Err c.in_err-judge.field-0.0 = search rules in
+    rw e (refused _ _ (sym c.in_err-judge.ensures))
 
-pub returns-in-Fine : goal.returns-in-Fine
+pub returns : goal.returns
 unfolding one_slot
-returns-in-Fine c =
-    goes_on _ (sym c.in-Fine.ensures) (rw c.span.ensures at c.plan.ensures)
+returns c = goes_on _ (sym c.in_ok-judge.ensures) (rw (c.circle.ensures.0, c.circle.ensures.1) at c.plan.ensures)
