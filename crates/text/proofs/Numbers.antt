@@ -1,22 +1,22 @@
 -- A line that is a number, told by its digits and the byte 10 behind them. Assumes nothing.
-use mathlib.Core.Path.{◌≡◌, sym, ap, ◌∙◌}
+use mathlib.Core.Path.{◌≡◌, ap, ◌∙◌}
 use mathlib.Core.Bool.{true}
 use mathlib.Core.List.{List}
 use Prim.Native.Nat.{ℕ, ◌+◌, ◌-◌, ◌<◌}
 use native.Mathlib.Omega.{arith}
 use lib.Dec.{eqb}
-use Rattle.std.specs.Prelude.{Some}
+use Rattle.std.specs.Prelude.{Some, Ok}
 use lib.ListN.{length, get_or, take, drop, length-drop}
 use lib.Seq.{length-take-le, get_or-take, get_or-drop}
-use borrow.Author.Tests.{eq-eqb, ne_eqb, lt-leb}
+use borrow.Author.Tests.{eq-eqb, ne_eqb}
 use Rattle.ground.proofs.Filling.{tail_part}
 use Rattle.ground.proofs.Minimum.{least_at}
 use Rattle.text.specs.Bytes.{newline, seek}
 use Rattle.text.specs.Decimal.{is_decimal}
-use Rattle.text.specs.Steps.{Counted, InFront, NumberLine, number_says, delay_says, line_says, LineSaid}
+use Rattle.text.specs.Steps.{Counted, InFront, NumberLine, end_says, number_says, delay_says, line_says, LineSaid}
 use Rattle.text.proofs.Decimals.{digit, is_decimal_lem}
 use Rattle.text.proofs.Forms.{row_not_last}
-use Rattle.text.proofs.Lined.{row_answer}
+use Rattle.text.proofs.Lined.{ends_there, row_answer}
 use Rattle.text.proofs.LineForms.{row_value}
 
 -- d digits, and byte 10 behind them
@@ -31,10 +31,10 @@ module _ (x : List ℕ) (at d v : ℕ) (w : InFront (take (length x - at) (drop 
   counted : Counted (drop at x) d v
   counted = rw (tail_part x at) at w.counted
 
-  behind : at + d ≡ at + seek newline (drop at x)
+  behind : Ok (at + d) ≡ end_says x at
   behind =
       let l : d < length (drop at x) = omega (arith, length-drop at x, n.inside) in
-      ap (λ (k : ℕ). at + k) (sym (line_there (drop at x) d v counted l (get_or-drop at x d 0 ∙ n.ends)))
+      ends_there x at d l (line_there (drop at x) d v counted l (get_or-drop at x d 0 ∙ n.ends))
 
   -- the line, as the code takes it
   as_long : length (take (at + d - at) (drop at x)) ≡ d
@@ -57,5 +57,5 @@ module _ (x : List ℕ) (at d v : ℕ) (w : InFront (take (length x - at) (drop 
 
   pub number_answer : (rows : ℕ) (r : LineSaid) → r ≡ delay_says rows v at (at + d + 1) → r ≡ line_says x at rows
   number_answer rows r e =
-      row_answer x at (at + d) behind (lt-leb (length x) (at + d) n.inside) rows r (row_not_last _ is_number)
+      row_answer x at (at + d) behind rows r (row_not_last _ is_number)
       (row_value rows _ at (at + d + 1) v r says_number e)

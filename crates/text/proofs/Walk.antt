@@ -172,8 +172,8 @@ module _ (x kept : List ℕ) (at n : ℕ) (w : Walked x kept at n) where
     row = more_told _ _ _ _ d m (says_line _ e)
 
     -- there is room for its delay
-    pub row_room : n < length kept
-    row_room = rw w.room (row_low x n row.0 row.1)
+    pub row_few : n < max_rows
+    row_few = row_low x n row.0 row.1
 
     pub next : Walked x (set kept n d) m (n + 1)
     unfolding lines_faults
@@ -184,9 +184,9 @@ module _ (x kept : List ℕ) (at n : ℕ) (w : Walked x kept at n) where
           inside = rw row.2 (ended_low x (suc (suc n)) (not_cut x (suc (suc n)) row.0));
           right = sym (front_pass _ (line_faults x (suc (suc n))) Fine w.right (sym row.0));
           rows = λ i l. below_more _ n w.rows row.1 i (omega arith);
-          few = row_low x n row.0 row.1;
+          few = row_few;
           room = length-set kept n d ∙ w.room;
-          delays = one_more_kept x kept n d row_room w.delays row.3;
+          delays = one_more_kept x kept n d (omega (arith, w.room, row_few)) w.delays row.3;
         })
 
   pub whole : (k : Link) (m : ℕ) → k ≡ table_link x → Last m ≡ line_says x at n → Kept x (whole_text k n m) kept

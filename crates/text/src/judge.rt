@@ -31,7 +31,7 @@ pub(crate) enum Line {
 pub(crate) fn title(line: &[u8], at: usize) -> Result<(), Fault>
     ensures { judged result ≡ first (title_faults line.now at) }
 {
-    if !bytes::same(b"pma 1", line) {
+    if line != b"pma 1".as_slice() {
         return Err(Fault {
             refusal: Refusal::BadLineOne,
             place: at,
@@ -44,13 +44,9 @@ pub(crate) fn title(line: &[u8], at: usize) -> Result<(), Fault>
 fn two_numbers(line: &[u8]) -> Option<Link>
     ensures { result ≡ numbers_say line.now }
 {
-    let k = bytes::seek(line, b' ');
-    if k >= line.len() {
-        return None;
-    }
+    let k = bytes::find(line, b' ')?;
     let period = decimal::read(&line[..k])?;
-    let from = k + 1;
-    let size = decimal::read(&line[from..])?;
+    let size = decimal::read(&line[k + 1..])?;
     Some(Link { period, size })
 }
 

@@ -6,13 +6,11 @@ mod decimal;
 mod judge;
 pub mod limits;
 
-ghost use Rattle.std.specs.Prelude.{◌≡◌, true, ◌≤◌, ◌+◌, leb, length, drop};
+ghost use Rattle.std.specs.Prelude.{◌≡◌, true, ◌≤◌, ◌<◌, length, IfOk};
 ghost use Rattle.ground.specs.Protocol.{gives};
-ghost use Rattle.link.specs.Limits.{max_rows};
-ghost use Rattle.text.specs.Bytes.{newline, seek};
 ghost use Rattle.text.specs.Answer.{said, reading};
 ghost use Rattle.text.specs.TextAnswer.{text_said, reading_text};
-ghost use Rattle.text.specs.Steps.{head_said, line_said, head_says, second_says, line_says, NumberLine, Kept, Rows};
+ghost use Rattle.text.specs.Steps.{head_said, line_said, end_says, head_says, second_says, line_says, NumberLine, Kept, Rows};
 
 use crate::judge::{Head, Line};
 use crate::limits::MAX_TEXT;
@@ -74,8 +72,7 @@ pub fn read_text(text: &[u8], delays: &mut [u32; MAX_ROWS]) -> Result<Text, Faul
 }
 
 // The lines from the start, up to the last one or the first fault. The delays are kept as they come.
-fn read_lines(text: &[u8], kept: &mut [u32]) -> Result<Text, Fault>
-    requires { length kept.old ≡ max_rows }
+fn read_lines(text: &[u8], kept: &mut [u32; MAX_ROWS]) -> Result<Text, Fault>
     ensures { Kept text.now (text_said result) kept.new }
 {
     let head = first_lines(text)?;
@@ -83,8 +80,8 @@ fn read_lines(text: &[u8], kept: &mut [u32]) -> Result<Text, Fault>
 }
 
 // The lines behind line two, the first of which begins at `head.at`.
-fn read_rows(text: &[u8], head: Head, kept: &mut [u32]) -> Result<Text, Fault>
-    requires { (Rows head.link head.at ≡ head_says text.now) × (length kept.old ≡ max_rows) }
+fn read_rows(text: &[u8], head: Head, kept: &mut [u32; MAX_ROWS]) -> Result<Text, Fault>
+    requires { Rows head.link head.at ≡ head_says text.now }
     ensures { Kept text.now (text_said result) kept.new }
 {
     let mut at = head.at;
@@ -107,32 +104,26 @@ fn read_rows(text: &[u8], head: Head, kept: &mut [u32]) -> Result<Text, Fault>
     }
 }
 
-// Where the line from `at` ends: its byte 10, or the end of the text.
-fn line_end(text: &[u8], at: usize) -> usize
+// Where the line from `at` ends: its byte 10. Where the text ends before it: 3.
+fn line_end(text: &[u8], at: usize) -> Result<usize, Fault>
     requires { at ≤ length text.now }
-    ensures { (result ≡ at + seek newline (drop at text.now)) × (result ≤ length text.now) }
+    ensures says { result ≡ end_says text.now at }
+    ensures inside { IfOk result (λ end. (at ≤ end) × (end < length text.now)) }
 {
-    at + bytes::seek(&text[at..], b'\n')
-}
-
-// The text ends before the line does: 3.
-fn is_cut(text: &[u8], end: usize) -> bool
-    ensures { result ≡ leb (length text.now) end }
-{
-    end >= text.len()
+    let Some(size) = bytes::find(&text[at..], b'\n') else {
+        return Err(Fault {
+            refusal: Refusal::CutLine,
+            place: at,
+        });
+    };
+    Ok(at + size)
 }
 
 // Lines one and two: 3, 2, 3, 4, 5, 6.
 fn first_lines(text: &[u8]) -> Result<Head, Fault>
     ensures { head_said result ≡ head_says text.now }
 {
-    let end = line_end(text, 0);
-    if is_cut(text, end) {
-        return Err(Fault {
-            refusal: Refusal::CutLine,
-            place: 0,
-        });
-    }
+    let end = line_end(text, 0)?;
     judge::title(&text[..end], 0)?;
     second(text, end + 1)
 }
@@ -142,13 +133,7 @@ fn second(text: &[u8], at: usize) -> Result<Head, Fault>
     requires { at ≤ length text.now }
     ensures { head_said result ≡ second_says text.now at }
 {
-    let end = line_end(text, at);
-    if is_cut(text, end) {
-        return Err(Fault {
-            refusal: Refusal::CutLine,
-            place: at,
-        });
-    }
+    let end = line_end(text, at)?;
     judge::line_two(&text[at..end], at, end + 1)
 }
 
@@ -170,16 +155,7 @@ fn is_number(text: &[u8], at: usize, end: usize) -> bool
     requires { (at ≤ end) × (end ≤ length text.now) }
     ensures { result ≡ true → NumberLine text.now at end }
 {
-    if end <= at {
-        return false;
-    }
-    if is_cut(text, end) {
-        return false;
-    }
-    if text[end] != b'\n' {
-        return false;
-    }
-    !decimal::leading_zero(&text[at..end])
+    at < end && end < text.len() && text[end] == b'\n' && !decimal::leading_zero(&text[at..end])
 }
 
 // Any line behind so many rows, which begins at `at`: 3, then what is wrong with it by itself.
@@ -187,13 +163,7 @@ fn any_line(text: &[u8], at: usize, rows: usize) -> Result<Line, Fault>
     requires { at ≤ length text.now }
     ensures { line_said result ≡ line_says text.now at rows }
 {
-    let end = line_end(text, at);
-    if is_cut(text, end) {
-        return Err(Fault {
-            refusal: Refusal::CutLine,
-            place: at,
-        });
-    }
+    let end = line_end(text, at)?;
     let line = &text[at..end];
     if judge::is_last(line) {
         return judge::last_line(line, at, rows, end + 1);

@@ -5,9 +5,6 @@ use Rattle.text.specs.TextAnswer.{text_said}
 use Rattle.text.proofs.Walk.{head_broken}
 use Rattle.text.proofs.read_lines.Goals as goal
 
-pub read_rows-requires : goal.read_rows-requires
-read_rows-requires c = (c.in_ok-head.ensures, c.requires)
-
 pub returns-in_err-head : goal.returns-in_err-head
 unfolding text_said
 returns-in_err-head c =

@@ -31,12 +31,12 @@ returns-then-delays-rows c =
 
 pub slice_bounds-kept-end : goal.slice_bounds-kept-end
 unfolding text_said
-slice_bounds-kept-end c = omega (arith, rows_few _ _ _ _ _ (c.in_ok-link.ensures), c.read_lines.auto.kept)
+slice_bounds-kept-end c = omega (arith, rows_few _ _ _ _ _ (c.in_ok-link.ensures))
 
 pub slice_bounds-copy_out-end : goal.slice_bounds-copy_out-end
 unfolding text_said
 slice_bounds-copy_out-end c =
-    sym (length-take-le _ _ (omega (arith, rows_few _ _ _ _ _ (c.in_ok-link.ensures), c.read_lines.auto.kept)))
+    sym (length-take-le _ _ (omega (arith, rows_few _ _ _ _ _ (c.in_ok-link.ensures))))
 
 pub copy_out-requires : goal.copy_out-requires
 copy_out-requires c = simp length-take (omega arith)

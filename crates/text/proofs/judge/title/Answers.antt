@@ -2,13 +2,19 @@
 use mathlib.Core.Path.{sym, ap, ◌∙◌}
 use mathlib.Core.Bool.{not}
 use Rattle.ground.proofs.Faults.{hit, pass, fine}
+use Rattle.text.specs.Bytes.{title_word}
 use Rattle.text.specs.Faults.{title_faults}
+use Rattle.text.proofs.Finding.{same_bytes}
 use Rattle.text.proofs.judge.title.Goals as goal
 
-pub returns-then-not-same : goal.returns-then-not-same
+pub returns-then-ne : goal.returns-then-ne
 unfolding title_faults
-returns-then-not-same c = hit _ _ _ _ (ap not (sym c.same.ensures ∙ c.if-not-same.true))
+returns-then-ne c =
+    let told = rw c.as_slice.ensures at c.ne.ensures in
+    hit _ _ _ _ (ap not (sym (same_bytes c.args.line.now title_word)) ∙ sym told ∙ c.if-ne.true)
 
 pub returns : goal.returns
 unfolding title_faults
-returns c = pass _ _ _ _ (ap not (sym c.same.ensures ∙ c.if-not-same.false)) fine
+returns c =
+    let told = rw c.as_slice.ensures at c.ne.ensures in
+    pass _ _ _ _ (ap not (sym (same_bytes c.args.line.now title_word)) ∙ sym told ∙ c.if-ne.false) fine
