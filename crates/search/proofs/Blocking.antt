@@ -3,11 +3,11 @@
 use mathlib.Core.Path.{◌≡◌, refl, ap, ◌∙◌}
 use mathlib.Core.Bool.{Bool, true, false, ◌&&◌, ◌||◌, not}
 use mathlib.Core.List.{List}
-use Prim.Native.Nat.{ℕ, ◌<◌, ◌≤◌}
+use Prim.Native.Nat.{ℕ, ◌<◌}
 use native.Mathlib.Omega.{arith}
 use lib.Dec.{ltb}
 use lib.ListN.{get_or}
-use borrow.Author.Tests.{lt-ltb, le-ltb, ltb-true}
+use borrow.Author.Tests.{ltb-true}
 use Rattle.link.specs.Slots.{apartb, meets}
 use Rattle.ground.specs.Least.{some}
 use Rattle.link.specs.Rows.{second, start, hits, either}
@@ -16,19 +16,6 @@ use Rattle.ground.proofs.Minimum.{least_cong}
 use Rattle.link.proofs.Meeting.{second_low}
 use Rattle.search.specs.Steps.{Step, placed, puts, in_the_way, good}
 use Rattle.search.specs.Search.{Table, Starts, blocked, unblocked}
-
-module _ (p l a b x y : ℕ) where
-  pub not_placed : p ≤ x → false ≡ blocked p l a b x y
-  unfolding blocked
-  not_placed h = rw (le-ltb x p h)
-
-  pub first_near : x < p → not (apartb p l x a) ≡ true → true ≡ blocked p l a b x y
-  unfolding blocked
-  first_near h e = rw (lt-ltb x p h, e)
-
-  pub second_decides : x < p → not (apartb p l x a) ≡ false → not (apartb p l y b) ≡ blocked p l a b x y
-  unfolding blocked
-  second_decides h e = rw (lt-ltb x p h, e)
 
 module _ (p l : ℕ) (ds : List ℕ) (n : ℕ) (t : Table p l ds n) (xs ys : List ℕ) (st : Starts p ds n xs ys) (d a b : ℕ) (ha : a < p)
     (hb : b ≡ second p d a) where

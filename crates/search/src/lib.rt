@@ -58,10 +58,7 @@ const CEILINGS: [u64; 9] = [0, 0, 2, 20, 342, 10472, 509930, 36086652, 349365779
 pub fn ceiling(rows: usize) -> u64
     ensures { result ≡ ceiling_up_to rows }
 {
-    if rows > MAX_EXACT_ROWS {
-        return 0;
-    }
-    CEILINGS[rows]
+    CEILINGS.get(rows).copied().unwrap_or(0)
 }
 
 // Where each row starts. A row that is not placed has a first start at or above the period.
@@ -135,13 +132,8 @@ fn reduced(period: u32, delays: &[u32]) -> [u32; MAX_ROWS]
 fn meets(circle: Circle, placed: Start, new: Start) -> bool
     ensures { result ≡ blocked circle.period circle.span new.first new.second placed.first placed.second }
 {
-    if circle.period <= placed.first {
-        return false;
-    }
-    if !circle.apart(placed.first, new.first) {
-        return true;
-    }
-    !circle.apart(placed.second, new.second)
+    placed.first < circle.period
+        && (!circle.apart(placed.first, new.first) || !circle.apart(placed.second, new.second))
 }
 
 impl Rows {

@@ -1,13 +1,12 @@
 -- Document 01's table has the ceiling of each number of rows.
-use borrow.Author.Tests.{lt-leb}
-use Rattle.search.specs.Limits.{max_exact_rows}
-use Rattle.search.specs.Ceilings.{ceiling_up_to}
+use mathlib.Core.Path.{ap, ◌∙◌}
+use Prim.Native.Nat.{ℕ}
+use native.Mathlib.Omega.{arith}
+use Rattle.std.specs.Prelude.{Option}
+use Rattle.std.specs.Option.{unwrap_or}
 use Rattle.search.proofs.Ceilings.{table}
 use Rattle.search.proofs.ceiling.Goals as goal
 
-pub returns-then-rows-gt-MAX_EXACT_ROWS : goal.returns-then-rows-gt-MAX_EXACT_ROWS
-unfolding ceiling_up_to
-returns-then-rows-gt-MAX_EXACT_ROWS c = rw (lt-leb _ max_exact_rows c.if-rows-gt-MAX_EXACT_ROWS.true)
-
 pub returns : goal.returns
-returns c = table _ c.if-rows-gt-MAX_EXACT_ROWS.false
+returns c =
+    c.unwrap_or.ensures ∙ ap (λ (o : Option ℕ). unwrap_or o 0) c.copied.ensures ∙ c.get.ensures.lookup.4 (omega arith) 0 ∙ table c.args.rows
