@@ -7,55 +7,58 @@ ghost use Rattle.planfile.specs.Format.{tag};
 ghost use Rattle.planfile.specs.Answer.{lists, read_said, read_gives, IsFileOf};
 ghost use Rattle.filereader.specs.Held.{ReadsNumber};
 
-use planfile::{PlanRead, Taken, reader};
+use ground::Fault;
+use planfile::{BadNumber, Plan, Taken, reader};
 
-#[derive(Clone, Copy)]
+#[derive(Clone, Copy, Debug, PartialEq, Eq)]
 pub struct FileReader<'a> {
     pub bytes: &'a [u8],
     pub at: usize,
 }
 
 // What was read, and the reader after it.
-#[derive(Clone, Copy)]
-pub struct NumberRead<'a> {
+#[derive(Clone, Copy, Debug, PartialEq, Eq)]
+pub struct NumberRead<'a, R> {
     pub reader: FileReader<'a>,
-    pub taken: Taken,
+    pub taken: Result<Taken, BadNumber<R>>,
 }
 
 // The tag has four bytes.
 const AFTER_TAG: usize = 4;
 
-// A reader of the caller's bytes, which stands after the tag.
-pub fn open<'a>(bytes: &'a [u8]) -> FileReader<'a>
-    ensures { (result.bytes ≡ bytes.entry) × (result.at ≡ length tag) }
-{
-    FileReader {
-        bytes,
-        at: AFTER_TAG,
+impl<'a> FileReader<'a> {
+    // A reader of the caller's bytes, which stands after the tag.
+    pub fn open(bytes: &'a [u8]) -> FileReader<'a>
+        ensures { (result.bytes ≡ bytes.entry) × (result.at ≡ length tag) }
+    {
+        FileReader {
+            bytes,
+            at: AFTER_TAG,
+        }
     }
-}
 
-// The number at the reader's place, or the refusal, and the reader moved past it.
-pub fn read_number<'a>(r: FileReader<'a>, low: u32, high: u32, fault: u32) -> NumberRead<'a>
-    ensures { ReadsNumber r.entry low high fault result }
-{
-    let taken = reader::take_number(r.bytes, r.at, low, high, fault);
-    NumberRead {
-        reader: FileReader {
-            bytes: r.bytes,
-            at: reader::after_number(r.at, taken),
-        },
-        taken,
+    // The number at the reader's place, or why it is none, and the reader moved past it.
+    pub fn read_number<R: Copy>(self, low: u32, high: u32, fault: R) -> NumberRead<'a, R>
+        ensures { ReadsNumber self.entry low high fault result }
+    {
+        let taken = reader::take_number(self.bytes, self.at, low, high, fault);
+        NumberRead {
+            reader: FileReader {
+                bytes: self.bytes,
+                at: reader::after_number(self.at, taken),
+            },
+            taken,
+        }
     }
 }
 
 // Reads a plan into the fronts of the two lists: the header at the reader's place, and the rest from where it stands after that.
-pub fn read_plan(bytes: &[u8], delays: &mut [u32], offsets: &mut [u32]) -> PlanRead
+pub fn read_plan(bytes: &[u8], delays: &mut [u32], offsets: &mut [u32]) -> Result<Plan, Fault>
     ensures answer { gives (read_said result) (lists delays.new offsets.new)
         ≡ read_gives bytes.now delays.old offsets.old }
     ensures file_of { IsFileOf result bytes.now delays.new offsets.new }
 {
-    let start = open(bytes);
+    let start = FileReader::open(bytes);
     let head = reader::read_header(start.bytes, start.at);
     let at_rows = FileReader {
         bytes: start.bytes,

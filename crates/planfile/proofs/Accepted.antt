@@ -20,8 +20,7 @@ use Rattle.planfile.specs.Bytes.{Bytes}
 use Rattle.planfile.specs.Causes.{left_over}
 use Rattle.planfile.specs.Format.{plan_bytes}
 use Rattle.planfile.specs.FileMeaning.{Meaning, plan, refused, closing, meaning}
-use Rattle.planfile.specs.Answer.{lists, read_said, reads_plan, ReadGives, Gives, refuses, delivers, delivered, read_gives}
-use Rattle.planfile.specs.declared.PlanRead.TheVariants.{Plan}
+use Rattle.planfile.specs.Answer.{lists, plan_of, read_said, reads_plan, ReadGives, Gives, refuses, delivers, delivered, read_gives}
 use Rattle.planfile.proofs.Closing.{some_left, none_left}
 use Rattle.planfile.proofs.OneFile.{accepted}
 use Rattle.planfile.proofs.RoundTrip.{reached}
@@ -91,7 +90,7 @@ module _ (bs old_d old_o : List ℕ) (h : Bytes bs) (k : Link) (n : ℕ) (ds os 
         bytes = rw link a.bytes;
       }
 
-  pub accepted_file : Gives (read_gives bs old_d old_o) (Plan k n) ds os → AcceptedFile bs old_d old_o k n ds os
+  pub accepted_file : Gives (read_gives bs old_d old_o) (plan_of k n) ds os → AcceptedFile bs old_d old_o k n ds os
   unfolding read_said read_gives delivered
   accepted_file e = go (meaning bs) refl e
     where

@@ -9,10 +9,8 @@ use borrow.Author.Tests.{ltb-false}
 use Rattle.link.specs.Limits.{max_period, max_rows, bad_period, bad_size, bad_rows}
 use Rattle.ground.specs.Judging.{outside}
 use Rattle.ground.proofs.Bools.{never, or_none}
-use Rattle.planfile.specs.Number.{read_number}
+use Rattle.planfile.specs.Number.{Number, Value, Cut, TooLong, Needless, read_number}
 use Rattle.planfile.specs.FileMeaning.{Step, got, stopped, passing, ranged, number, Head, header}
-use Rattle.planfile.specs.declared.Number.{Number}
-use Rattle.planfile.specs.declared.Number.TheVariants.{Value, Cut, TooLong, Needless}
 
 -- a step that was followed by another got something
 pub record Before {A B : Type 0} (s : Step A) (f : A → ℕ → Step B) (b : B) (n : ℕ) : Type 0 where

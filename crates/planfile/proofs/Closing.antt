@@ -1,5 +1,5 @@
 -- What the reader gives after the last number, case by case. Assumes nothing.
-use mathlib.Core.Path.{◌≡◌, sym, ap, ◌∙◌}
+use mathlib.Core.Path.{◌≡◌}
 use mathlib.Core.Bool.{or-true}
 use mathlib.Core.List.{List}
 use Prim.Native.Nat.{ℕ, ◌≤◌, ◌<◌}
@@ -12,20 +12,8 @@ use Rattle.ground.specs.Protocol.{unless}
 use Rattle.checker.specs.Judging.{clear_faults}
 use Rattle.ground.specs.Judging.{Fine, Fault}
 use Rattle.planfile.specs.Causes.{left_over}
-use Rattle.planfile.specs.FileMeaning.{Step, got, stopped, Rows, plan, refused, closing}
-use Rattle.planfile.specs.Answer.{refuses, delivers, delivered, rowsed}
-use Rattle.planfile.specs.declared.RowsRead.{RowsRead}
-use Rattle.planfile.specs.declared.RowsRead.TheVariants.{End, Refused}
-
--- what is known of the rows, once the answer on all of them is known
-module _ (r : RowsRead) (ds os : List ℕ) (s : Step Rows) (e : rowsed r ds os ≡ s) where
-  pub rows_ended : (end : ℕ) → r ≡ End end → s ≡ got (record { delays = ds; offsets = os }) end
-  unfolding rowsed
-  rows_ended end f = sym e ∙ ap (λ (x : RowsRead). rowsed x ds os) f
-
-  pub rows_refused : (n p : ℕ) → r ≡ Refused n p → s ≡ stopped n p
-  unfolding rowsed
-  rows_refused n p f = sym e ∙ ap (λ (x : RowsRead). rowsed x ds os) f
+use Rattle.planfile.specs.FileMeaning.{plan, refused, closing}
+use Rattle.planfile.specs.Answer.{refuses, delivers, delivered}
 
 -- "After the last number: .. bytes left over", before anything else is judged
 module _ (bs : List ℕ) (k : Link) (ds os : List ℕ) (at : ℕ) where

@@ -8,7 +8,7 @@ use lib.ListN.{length, take, drop, length-append}
 use lib.Seq.{take-append-le, take-append-add}
 use borrow.Author.Tests.{lt-ltb, le-ltb}
 use Rattle.ground.specs.Words.{begins}
-use Rattle.ground.proofs.Bools.{never, lt_or_ge}
+use Rattle.ground.proofs.Bools.{lt_or_ge}
 use Rattle.link.specs.Limits.{max_period, max_delay, max_rows, bad_period, bad_size, bad_delay, bad_rows, bad_offset}
 use Rattle.link.specs.Range.{GoodTable, GoodPlan}
 use Rattle.link.specs.declared.Link.{Link}
@@ -17,7 +17,7 @@ use Rattle.planfile.specs.Number.{number_bytes, form_fault}
 use Rattle.planfile.specs.Format.{tag, header_bytes, rows_bytes, plan_bytes, rows_parts, numbers_parts, plan_parts, first_byte, place_of}
 use Rattle.planfile.specs.FileMeaning.{Step, got, stopped, passing, number, header, row, rows, Meaning, refused, means, body}
 use Rattle.planfile.specs.FileMeaning.{tag_fault, meaning}
-use Rattle.planfile.specs.declared.Number.TheVariants.{Cut}
+use Rattle.planfile.specs.declared.Malformed.TheVariants.{Cut as IsCut}
 use Rattle.planfile.proofs.Encoding.{number_cut}
 use Rattle.planfile.proofs.Steps.{number_form}
 use Rattle.planfile.proofs.RoundTrip.{behind, number_got, InRows, in_rows, later_rows, three, both, both_more}
@@ -75,7 +75,7 @@ module _ (bs : List ℕ) (place : ℕ) where
           let here : drop at bs ≡ take c.kept (number_bytes v) = c.here
           ∙ take-append-le c.kept (number_bytes v) (flatten parts) (omega arith) in
           let first : at ≡ place = sym (in_first (number_bytes v) parts at (at + c.kept) (omega arith)) ∙ c.begins in
-          cut (sym (number_form bs at lo hi fault Cut (sym (rw here (number_cut v c.kept q))) (λ _ _ e. never (cc)) cut_off refl)
+          cut (sym (number_form bs at lo hi fault IsCut (sym (rw here (number_cut v c.kept q))))
           ∙ ap (stopped cut_off) first)
 
       beyond : length (number_bytes v) ≤ c.kept → Either (number bs at lo hi fault) v bs parts place

@@ -11,9 +11,8 @@ use lib.Seq.{get_or-drop}
 use borrow.Author.Tests.{lt-ltb, le-ltb, ne_eqb, ltb-true, ltb-false, eqb-true, eqb-false}
 use Rattle.ground.proofs.Bools.{never, lt_or_ge}
 use Rattle.planfile.specs.Bytes.{Bytes}
+use Rattle.planfile.specs.Number.{Number, Value, Cut, TooLong, Needless}
 use Rattle.planfile.specs.Number.{more_groups, limit, groups, number_bytes, ending, onto, groups_read, read_number}
-use Rattle.planfile.specs.declared.Number.{Number}
-use Rattle.planfile.specs.declared.Number.TheVariants.{Value, Cut, TooLong, Needless}
 use Rattle.planfile.proofs.Numbers.{one_group, more_groups_lem}
 
 pub tail_bytes : (b : ℕ) (bs : List ℕ) → Bytes (b ∷ bs) → Bytes bs

@@ -20,17 +20,15 @@ use Rattle.link.specs.Refusal.{link_faults, row_faults, offset_faults}
 use Rattle.link.specs.declared.Link.{Link}
 use Rattle.checker.specs.Judging.{clear_faults}
 use Rattle.planfile.specs.Causes.{wrong_tag, cut_off, left_over}
-use Rattle.planfile.specs.Number.{read_number, form_fault}
+use Rattle.planfile.specs.Number.{Number, Value, Cut, TooLong, Needless, formed, read_number, form_fault}
 use Rattle.planfile.specs.Format.{tag}
 use Rattle.planfile.specs.FileMeaning.{Step, got, stopped, ranged, number, Head, header, tag_fault, row, rows}
 use Rattle.planfile.specs.FileMeaning.{Meaning, plan, refused, closing, rest, body, meaning}
-use Rattle.planfile.specs.Answer.{read_said, lists, ReadGives, Gives, refuses, delivers, delivered, read_gives}
+use Rattle.planfile.specs.Answer.{refuses_read, lists, ReadGives, refuses, delivers, delivered, read_gives}
 use Rattle.planfile.specs.FormFault.{NumberFault, cut, too_long, needless, RowAt, NumberAt, period, size, row_count, delay, offset}
 use Rattle.planfile.specs.FormFault.{FormFault, tag_wrong, cut_tag, bad_number, bytes_left_over, form_number}
-use Rattle.planfile.specs.declared.PlanRead.TheVariants.{Refused}
-use Rattle.planfile.specs.declared.Number.{Number}
-use Rattle.planfile.specs.declared.Number.TheVariants.{Value, Cut, TooLong, Needless}
-use Rattle.planfile.proofs.NoValue.{NoValue}
+use Rattle.planfile.specs.declared.Malformed.{Malformed}
+use Rattle.planfile.specs.declared.Malformed.TheVariants.{Cut as IsCut, TooLong as IsTooLong, Needless as IsNeedless}
 use Rattle.planfile.proofs.NumberForms.{faulty_number, number_faulty}
 use Rattle.planfile.proofs.Steps.{number_form}
 use Rattle.planfile.proofs.Stopping.{stop_in, refused_in, stops_at_a_row, rows_stop}
@@ -47,18 +45,18 @@ module _ (bs : List ℕ) (n : ℕ) where
       range true v next h = let same : fault ≡ n = cc in clash f (rw same at g)
       range false v next h = never (cc)
 
-      shape : (w : Number) → read_number (drop at bs) ≡ w → NoValue w → ◌≡◌ {A = Step ℕ} (stopped (form_fault w) at) (stopped n q) →
-          (at ≡ q) × NumberFault (drop at bs) n
-      shape w r v h =
-          let same : form_fault w ≡ n = cc in
+      shape : (m : Malformed) → read_number (drop at bs) ≡ formed m
+          → ◌≡◌ {A = Step ℕ} (stopped (form_fault (formed m)) at) (stopped n q) → (at ≡ q) × NumberFault (drop at bs) n
+      shape m r h =
+          let same : form_fault (formed m) ≡ n = cc in
           let place : at ≡ q = cc in
-          (place, rw (← same) (faulty_number (drop at bs) w r v))
+          (place, rw (← same) (faulty_number (drop at bs) m r))
 
       go : (w : Number) → read_number (drop at bs) ≡ w → ranged w at lo hi fault ≡ stopped n q → (at ≡ q) × NumberFault (drop at bs) n
       go (Value v k) r h = range (outside lo hi v) v _ h
-      go Cut r h = shape Cut r (λ _ _ c. never (cc)) h
-      go TooLong r h = shape TooLong r (λ _ _ c. never (cc)) h
-      go Needless r h = shape Needless r (λ _ _ c. never (cc)) h
+      go Cut r h = shape IsCut r h
+      go TooLong r h = shape IsTooLong r h
+      go Needless r h = shape IsNeedless r h
 
   -- where a number begins
   stops_at : (at : ℕ) → NumberAt bs at → (lo hi fault q : ℕ) → form_number n ≡ true → form_number fault ≡ false →
@@ -151,7 +149,7 @@ module _ (bs : List ℕ) (n q : ℕ) where
   number_refused : (at lo hi fault : ℕ) → NumberFault (drop at bs) n → number bs at lo hi fault ≡ stopped n at
   number_refused at lo hi fault x =
       let y = number_faulty (drop at bs) n x in
-      sym (number_form bs at lo hi fault y.said y.reads y.no_value n y.refusal)
+      rw y.refusal (sym (number_form bs at lo hi fault y.said y.reads))
 
   header_refused : header bs (length tag) ≡ stopped n q → body bs (length tag) ≡ refused n q
   unfolding body
@@ -208,18 +206,17 @@ only_the_tag bs q (bytes_left_over e t h w l) = absurd (omega (arith, e))
 
 -- a reader that refuses with such a number does so by what the file means, not for its lists
 pub refused_means : (bs old_d old_o ds os : List ℕ) (n q : ℕ) → form_number n ≡ true
-    → Gives (read_gives bs old_d old_o) (Refused n q) ds os →
-    meaning bs ≡ refused n q
-unfolding read_said read_gives delivered form_number
+    → gives (refuses_read n q) (lists ds os) ≡ read_gives bs old_d old_o → meaning bs ≡ refused n q
+unfolding read_gives delivered form_number
 refused_means bs old_d old_o ds os n q f e = go (meaning bs) e
   where
     pick : (k : Link) (xs ys : List ℕ) (b : Bool) →
-        gives (read_said (Refused n q)) (lists ds os) ≡ cond b (refuses bad_length 0 old_d old_o) (delivers k xs ys old_d old_o) →
+        gives (refuses_read n q) (lists ds os) ≡ cond b (refuses bad_length 0 old_d old_o) (delivers k xs ys old_d old_o) →
         plan k xs ys ≡ refused n q
     pick k xs ys true h = let number : n ≡ bad_length = ap (λ (g : ReadGives). g.says.number) h in clash (rw number at f) refl
     pick k xs ys false h = never (cc (ap (λ (g : ReadGives). g.says.verdict) h))
 
-    go : (m : Meaning) → gives (read_said (Refused n q)) (lists ds os) ≡ delivered m old_d old_o → m ≡ refused n q
+    go : (m : Meaning) → gives (refuses_read n q) (lists ds os) ≡ delivered m old_d old_o → m ≡ refused n q
     go (plan k xs ys) h = pick k xs ys (ltb (length old_d) (length xs) || ltb (length old_o) (length ys)) h
     go (refused a b) h =
         let number : n ≡ a = ap (λ (g : ReadGives). g.says.number) h in

@@ -5,16 +5,16 @@ use mathlib.Core.Bool.{Bool, true, false, cond}
 use mathlib.Core.List.{List, []}
 use Prim.Native.Nat.{ℕ}
 use Rattle.ground.proofs.Bools.{never}
-use Rattle.link.specs.declared.Link.{Link}
+use Rattle.std.specs.Prelude.{Ok, Err}
+use Rattle.ground.specs.Refusals.{number_of}
+use Rattle.ground.specs.declared.Fault.{Fault}
 use Rattle.planfile.specs.Bytes.{Bytes}
 use Rattle.planfile.specs.Format.{tag}
 use Rattle.planfile.specs.FileMeaning.{Step, got, stopped, after, Head, header, tag_fault, tagged, rows, Meaning, refused, means}
 use Rattle.ground.specs.Words.{begins}
 use Rattle.planfile.specs.FileMeaning.{closing, rest, body, meaning}
-use Rattle.planfile.specs.Answer.{headed, InRange, refuses, delivered, rest_gives, ReadGives, Gives, read_gives, IsFileOf}
+use Rattle.planfile.specs.Answer.{HeaderRead, headed, InRange, PlanRead, refuses, delivered, rest_gives, ReadGives, Gives, read_gives, IsFileOf}
 use Rattle.planfile.specs.declared.Header.{Header}
-use Rattle.planfile.specs.declared.Header.TheVariants.{Read, Refused}
-use Rattle.planfile.specs.declared.PlanRead.{PlanRead}
 use Rattle.planfile.proofs.Accepting.{headed as header_read}
 use Rattle.planfile.proofs.Promises.{is_file_of}
 
@@ -26,28 +26,30 @@ module _ (bs : List ℕ) (at : ℕ) where
   with_tag e = rw e
 
   -- a header that was read is in its ranges
-  pub in_range : (h : Header) → headed h ≡ tagged bs at → InRange h
+  pub in_range : (h : HeaderRead) → headed h ≡ tagged bs at → InRange h
   unfolding headed
-  in_range (Refused n p) e = tt
-  in_range (Read k n next) e = go (begins tag bs) e
+  in_range (Err f) e = tt
+  in_range (Ok h) e = go (begins tag bs) e
     where
-      go : (b : Bool) → got (record { link = k; rows = n }) next ≡ cond b (header bs at) (stopped (tag_fault bs) 0)
-          → InRange (Read k n next)
-      go true f = let r = header_read bs at (record { link = k; rows = n }) next (sym f) in (r.period.low, r.rows.high)
+      go : (b : Bool) → got (record { link = h.link; rows = h.rows }) h.next ≡ cond b (header bs at) (stopped (tag_fault bs) 0)
+          → InRange (Ok h)
+      go true f = let r = header_read bs at (record { link = h.link; rows = h.rows }) h.next (sym f) in (r.period.low, r.rows.high)
       go false f = never (cc)
 
-  module _ (h : Header) (old_d old_o : List ℕ) where
-    pub head_refused : (n p : ℕ) → h ≡ Refused n p → rest_gives bs at h old_d old_o ≡ refuses n p old_d old_o
+  module _ (h : HeaderRead) (old_d old_o : List ℕ) where
+    pub head_refused : (f : Fault) → h ≡ Err f → rest_gives bs at h old_d old_o ≡ refuses (number_of f.refusal) f.place old_d old_o
     unfolding headed delivered rest_gives
-    head_refused n p e = ap (λ (x : Header). rest_gives bs at x old_d old_o) e
+    head_refused f e = ap (λ (x : HeaderRead). rest_gives bs at x old_d old_o) e
 
-    module _ (k : Link) (n next : ℕ) (e : h ≡ Read k n next) where
-      pub bad_rows : (m p : ℕ) → rows bs k.period n [] [] at ≡ stopped m p → rest_gives bs at h old_d old_o ≡ refuses m p old_d old_o
+    module _ (w : Header) (e : h ≡ Ok w) where
+      pub bad_rows : (m p : ℕ) → rows bs w.link.period w.rows [] [] at ≡ stopped m p
+          → rest_gives bs at h old_d old_o ≡ refuses m p old_d old_o
       unfolding headed delivered rest_gives
       bad_rows m p f = rw (e, f)
 
-      pub all_rows : (ds os : List ℕ) (end : ℕ) → rows bs k.period n [] [] at ≡ got (record { delays = ds; offsets = os }) end →
-          rest_gives bs at h old_d old_o ≡ delivered (closing bs k ds os end) old_d old_o
+      pub all_rows : (ds os : List ℕ) (end : ℕ)
+          → rows bs w.link.period w.rows [] [] at ≡ got (record { delays = ds; offsets = os }) end
+          → rest_gives bs at h old_d old_o ≡ delivered (closing bs w.link ds os end) old_d old_o
       unfolding headed rest_gives
       all_rows ds os end f = rw (e, f)
 
@@ -57,7 +59,7 @@ module _ (bs old_d old_o : List ℕ) where
   goes_on at (got h next) = refl
   goes_on at (stopped n p) = refl
 
-  whole : (h : Header) → headed h ≡ tagged bs 4 → rest_gives bs (after 4 (headed h)) h old_d old_o ≡ read_gives bs old_d old_o
+  whole : (h : HeaderRead) → headed h ≡ tagged bs 4 → rest_gives bs (after 4 (headed h)) h old_d old_o ≡ read_gives bs old_d old_o
   unfolding rest_gives read_gives meaning body
   whole h e =
       ap (λ (s : Step Head). delivered (means s (λ x _. rest bs x (after 4 s))) old_d old_o) e
@@ -68,7 +70,7 @@ module _ (bs old_d old_o : List ℕ) where
       go true = refl
       go false = refl
 
-  pub as_read : (h : Header) (m : ℕ) (r : PlanRead) (ds os : List ℕ) → headed h ≡ tagged bs 4 → m ≡ after 4 (headed h) → Bytes bs →
+  pub as_read : (h : HeaderRead) (m : ℕ) (r : PlanRead) (ds os : List ℕ) → headed h ≡ tagged bs 4 → m ≡ after 4 (headed h) → Bytes bs →
       Gives (rest_gives bs m h old_d old_o) r ds os → Gives (read_gives bs old_d old_o) r ds os × IsFileOf r bs ds os
   as_read h m r ds os e place bytes given =
       let all = subst (λ (g : ReadGives). Gives g r ds os) (ap (λ (n : ℕ). rest_gives bs n h old_d old_o) place ∙ whole h e) given in

@@ -1,5 +1,4 @@
 -- Laws that belong to no one function.
-pub mod NoValue
 pub mod NumberForms
 pub mod Numbers
 pub mod Steps

@@ -5,24 +5,23 @@ use Prim.Native.Nat.{ℕ}
 use Rattle.link.specs.declared.Link.{Link}
 use Rattle.ground.specs.Protocol.{gives}
 use Rattle.ground.proofs.Answers.{no_second_outcome}
-use Rattle.planfile.specs.Answer.{Verdict, done, refusal, ReadSaid, read_said, Lists, Gives, read_gives}
-use Rattle.planfile.specs.Answer.{WrittenSaid, written_said, write_gives}
-use Rattle.planfile.specs.declared.PlanRead.{PlanRead}
-use Rattle.planfile.specs.declared.PlanRead.TheVariants.{Plan, Refused as ReadRefused}
-use Rattle.planfile.specs.declared.PlanWritten.{PlanWritten}
-use Rattle.planfile.specs.declared.PlanWritten.TheVariants.{File, Refused as WriteRefused}
+use Rattle.ground.proofs.Refusals.{refused, fault_again}
+use Rattle.ground.specs.declared.Fault.{Fault}
+use Rattle.std.specs.Prelude.{Ok, Err}
+use Rattle.planfile.specs.Answer.{Verdict, done, refusal, ReadSaid, PlanRead, read_said, Lists, Gives, read_gives}
+use Rattle.planfile.specs.Answer.{WrittenSaid, PlanWritten, written_said, write_gives}
 
 abbrev unread : ReadSaid → PlanRead
 unread s = unread_as s.verdict s
   where
     unread_as : Verdict → ReadSaid → PlanRead
-    unread_as done s = Plan s.link s.rows
-    unread_as refusal s = ReadRefused s.number s.place
+    unread_as done s = Ok (record { link = s.link; rows = s.rows })
+    unread_as refusal s = Err (refused s.number s.place)
 
 read_again : (r : PlanRead) → unread (read_said r) ≡ r
 unfolding read_said
-read_again (Plan k n) = refl
-read_again (ReadRefused n p) = refl
+read_again (Ok w) = refl
+read_again (Err f) = ap (λ (g : Fault). Err g) (fault_again f)
 
 -- of a reader: an answer and the two lists that it leaves
 pub no_second_reading : (bs old_d old_o : List ℕ) (r r' : PlanRead) (ds ds' os os' : List ℕ) → Gives (read_gives bs old_d old_o) r ds os →
@@ -35,13 +34,13 @@ abbrev unwritten : WrittenSaid → PlanWritten
 unwritten s = unwritten_as s.verdict s
   where
     unwritten_as : Verdict → WrittenSaid → PlanWritten
-    unwritten_as done s = File s.bytes
-    unwritten_as refusal s = WriteRefused s.number s.place
+    unwritten_as done s = Ok s.bytes
+    unwritten_as refusal s = Err (refused s.number s.place)
 
 written_again : (r : PlanWritten) → unwritten (written_said r) ≡ r
 unfolding written_said
-written_again (File n) = refl
-written_again (WriteRefused n p) = refl
+written_again (Ok n) = refl
+written_again (Err f) = ap (λ (g : Fault). Err g) (fault_again f)
 
 -- of the writer: an answer and the buffer
 pub no_second_writing : (k : Link) (ds os old : List ℕ) (r r' : PlanWritten) (bs bs' : List ℕ)

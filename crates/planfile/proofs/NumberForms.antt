@@ -8,11 +8,10 @@ use lib.Dec.{ltb, eqb}
 use lib.ListN.{length, get_or}
 use borrow.Author.Tests.{le-ltb, eq-eqb, ne_eqb, ltb-false, eqb-true, eqb-false}
 use Rattle.ground.proofs.Bools.{never}
-use Rattle.planfile.specs.Number.{more_groups, ending, onto, groups_read, read_number, form_fault}
+use Rattle.planfile.specs.Number.{Number, Value, Cut, TooLong, Needless, formed, more_groups, ending, onto, groups_read, read_number, form_fault}
 use Rattle.planfile.specs.FormFault.{TopBits, NumberFault, cut, too_long, needless}
-use Rattle.planfile.specs.declared.Number.{Number}
-use Rattle.planfile.specs.declared.Number.TheVariants.{Value, Cut, TooLong, Needless}
-use Rattle.planfile.proofs.NoValue.{NoValue}
+use Rattle.planfile.specs.declared.Malformed.{Malformed}
+use Rattle.planfile.specs.declared.Malformed.TheVariants.{Cut as IsCut, TooLong as IsTooLong, Needless as IsNeedless}
 
 -- what a reading says of the bytes, where so many groups more may follow the first
 abbrev Form : ℕ → Bool → List ℕ → Number → Type 0
@@ -104,31 +103,23 @@ read_needless more first (b ∷ bs) (suc m) f h l t e =
 
 -- a fault of form, and the reading that it is
 pub record Faulty (bs : List ℕ) (n : ℕ) : Type 0 where
-  pub said : Number
-  pub reads : said ≡ read_number bs
-  pub no_value : NoValue said
-  pub refusal : n ≡ form_fault said
+  pub said : Malformed
+  pub reads : formed said ≡ read_number bs
+  pub refusal : n ≡ form_fault (formed said)
 
 pub number_faulty : (bs : List ℕ) (n : ℕ) → NumberFault bs n → Faulty bs n
 unfolding read_number form_fault
-number_faulty bs n (cut e h t) =
-    record { said = Cut; reads = sym (read_cut more_groups true bs h t); no_value = λ _ _ q. never (cc); refusal = e }
+number_faulty bs n (cut e h t) = record { said = IsCut; reads = sym (read_cut more_groups true bs h t); refusal = e }
 number_faulty bs n (too_long e h t) =
-    record { said = TooLong; reads = sym (read_too_long more_groups true bs h t); no_value = λ _ _ q. never (cc); refusal = e }
+    record { said = IsTooLong; reads = sym (read_too_long more_groups true bs h t); refusal = e }
 number_faulty bs n (needless e m low h l t z) =
-    record {
-      said = Needless;
-      reads = sym (read_needless more_groups true bs m (λ _. low) h l t z);
-      no_value = λ _ _ q. never (cc);
-      refusal = e;
-    }
+    record { said = IsNeedless; reads = sym (read_needless more_groups true bs m (λ _. low) h l t z); refusal = e }
 
-pub faulty_number : (bs : List ℕ) (q : Number) → read_number bs ≡ q → NoValue q → NumberFault bs (form_fault q)
+pub faulty_number : (bs : List ℕ) (m : Malformed) → read_number bs ≡ formed m → NumberFault bs (form_fault (formed m))
 unfolding read_number form_fault
-faulty_number bs q e h = go q h (rw e at (form more_groups true bs))
+faulty_number bs m e = go m (rw e at (form more_groups true bs))
   where
-    go : (q : Number) → NoValue q → Form more_groups true bs q → NumberFault bs (form_fault q)
-    go (Value v n) h w = absurd (h v n refl)
-    go Cut h w = cut refl w.0 w.1
-    go TooLong h w = too_long refl w.0 w.1
-    go Needless h w = needless refl w.0 (w.1 refl) w.2 w.3 w.4 w.5
+    go : (m : Malformed) → Form more_groups true bs (formed m) → NumberFault bs (form_fault (formed m))
+    go IsCut w = cut refl w.0 w.1
+    go IsTooLong w = too_long refl w.0 w.1
+    go IsNeedless w = needless refl w.0 (w.1 refl) w.2 w.3 w.4 w.5

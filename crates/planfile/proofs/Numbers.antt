@@ -2,6 +2,7 @@
 use mathlib.Core.Path.{◌≡◌, refl, ap}
 use mathlib.Core.Bool.{Bool, true, false, cond}
 use mathlib.Core.List.{List, [], ◌∷◌}
+use mathlib.Core.Logic.{◌⊎◌, ⊎_elim}
 use Prim.Native.Nat.{ℕ, zero, suc, ◌+◌, ◌-◌, ◌*◌, ◌/◌, ◌%◌, ◌≤◌, ◌<◌}
 use native.Mathlib.Omega.{arith}
 use native.Mathlib.Numerals.{add-one}
@@ -13,10 +14,10 @@ use Rattle.link.specs.Limits.{max_delay}
 use Rattle.ground.specs.Lent.{Adds}
 use Rattle.ground.proofs.Adding.{one_set, and_then}
 use Rattle.ground.proofs.Bools.{never}
+use Rattle.planfile.specs.Number.{Number, Value, Cut, TooLong, Needless, formed}
 use Rattle.planfile.specs.Number.{more_groups, limit, groups, number_bytes, ending, onto, groups_read}
-use Rattle.planfile.specs.declared.Number.{Number}
-use Rattle.planfile.specs.declared.Number.TheVariants.{Value, Cut, TooLong, Needless}
-use Rattle.planfile.proofs.NoValue.{NoValue}
+use Rattle.planfile.specs.declared.Malformed.{Malformed}
+use Rattle.planfile.specs.declared.Malformed.TheVariants.{Cut as IsCut, TooLong as IsTooLong, Needless as IsNeedless}
 
 -- how the code shows what the bytes from `at` on say
 module _ (more : ℕ) (first : Bool) (bs : List ℕ) (at : ℕ) where
@@ -38,25 +39,20 @@ module _ (more : ℕ) (first : Bool) (bs : List ℕ) (at : ℕ) where
     unfolding groups_read
     goes_on q h z e = rw (drop-cons bs at 0 lt, le-ltb _ _ h, ne_eqb _ _ z, e, add-one)
 
--- the three ways in which a last byte is judged
-pub zero_alone : (first : Bool) (b : ℕ) → b ≡ 0 → first ≡ true → Value 0 1 ≡ ending first b
+-- the two ways in which a last byte is judged
+pub last_value : (first : Bool) (b : ℕ) → ((b ≡ 0) × (first ≡ true)) ⊎ (b ≡ 0 → ⊥) → Value b 1 ≡ ending first b
 unfolding ending
-zero_alone first b h f = rw (eq-eqb _ _ h, f)
+last_value first b = ⊎_elim (λ w. rw (w.0, w.1)) (λ h. rw (ne_eqb _ _ h))
 
 pub zero_after : (first : Bool) (b : ℕ) → b ≡ 0 → first ≡ false → Needless ≡ ending first b
 unfolding ending
 zero_after first b h f = rw (eq-eqb _ _ h, f)
 
-pub not_zero : (first : Bool) (b : ℕ) → (b ≡ 0 → ⊥) → Value b 1 ≡ ending first b
-unfolding ending
-not_zero first b h = rw (ne_eqb _ _ h)
-
-pub passes : (b : ℕ) (q : Number) → NoValue q → onto b q ≡ q
+pub passes : (b : ℕ) (m : Malformed) → onto b (formed m) ≡ formed m
 unfolding onto
-passes b (Value v n) h = absurd (h v n refl)
-passes b Cut h = refl
-passes b TooLong h = refl
-passes b Needless h = refl
+passes b IsCut = refl
+passes b IsTooLong = refl
+passes b IsNeedless = refl
 
 -- a value, the bytes that it takes, and its bounds
 pub record Small (more size v n : ℕ) : Type 0 where

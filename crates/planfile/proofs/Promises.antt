@@ -7,7 +7,10 @@ use Prim.Native.Nat.{ℕ, ◌≤◌, ◌<◌}
 use native.Mathlib.Omega.{arith}
 use lib.ListN.{length, take, drop, length-append}
 use lib.Seq.{take-append_seam, drop-length}
+use Rattle.std.specs.Prelude.{Ok, Err}
 use Rattle.ground.specs.Judging.{first}
+use Rattle.ground.specs.Refusals.{number_of}
+use Rattle.ground.specs.declared.Fault.{Fault}
 use Rattle.ground.specs.Lent.{on_front}
 use Rattle.ground.specs.Protocol.{Outcome, gives, keeping}
 use Rattle.ground.specs.Words.{begins, Differ}
@@ -23,17 +26,12 @@ use Rattle.checker.specs.Order.{FirstCollision}
 use Rattle.checker.proofs.Judging.{clear_fine, fine_clear, unclear}
 use Rattle.planfile.specs.Bytes.{Bytes}
 use Rattle.planfile.specs.Causes.{wrong_tag, cut_off, left_over}
-use Rattle.planfile.specs.Number.{more_groups, limit, number_bytes, read_number}
+use Rattle.planfile.specs.Number.{Value, more_groups, limit, number_bytes, read_number}
 use Rattle.planfile.specs.Format.{tag, plan_bytes, place_of}
 use Rattle.planfile.specs.FileMeaning.{got, header, Rows, rows, plan, refused, closing, body, meaning}
-use Rattle.planfile.specs.Answer.{IsFileOf, read_said, Gives, refuses, read_gives, delivered}
-use Rattle.planfile.specs.Answer.{WrittenSaid, written_said, refuses_write, write_faults, write_gives}
+use Rattle.planfile.specs.Answer.{ReadSaid, ReadGives, PlanRead, plan_of, IsFileOf, refuses_read, read_said, Gives, refuses, read_gives, delivered}
+use Rattle.planfile.specs.Answer.{WrittenSaid, PlanWritten, written_said, refuses_write, write_faults, write_gives}
 use Rattle.planfile.specs.FormFault.{FormFault, tag_wrong, form_number}
-use Rattle.planfile.specs.declared.Number.TheVariants.{Value}
-use Rattle.planfile.specs.declared.PlanRead.{PlanRead}
-use Rattle.planfile.specs.declared.PlanRead.TheVariants.{Plan, Refused as ReadRefused}
-use Rattle.planfile.specs.declared.PlanWritten.{PlanWritten}
-use Rattle.planfile.specs.declared.PlanWritten.TheVariants.{File, Refused as WriteRefused}
 use Rattle.planfile.proofs.Accepted.{ClearPlan, means_its_plan, added_means, reads_back, AcceptedFile, accepted_file}
 use Rattle.planfile.proofs.Closing.{bytes_left_over, unclear as unclear_closed}
 use Rattle.planfile.proofs.Damage.{cut_anywhere}
@@ -53,16 +51,20 @@ Reads bs old_d old_o r ds os = Gives (read_gives bs old_d old_o) r ds os
 
 -- a refused reading, with both lists kept
 abbrev pub RefusedAt : ℕ → ℕ → PlanRead → List ℕ → List ℕ → List ℕ → List ℕ → Type 0
-RefusedAt n p r old_d ds old_o os = (r ≡ ReadRefused n p) × (ds ≡ old_d) × (os ≡ old_o)
+RefusedAt n p r old_d ds old_o os = (read_said r ≡ refuses_read n p) × (ds ≡ old_d) × (os ≡ old_o)
 
-refused_so : (bs old_d old_o : List ℕ) (n p : ℕ) → refuses n p old_d old_o ≡ read_gives bs old_d old_o → {r : PlanRead} {ds os : List ℕ}
+refused_so : (bs old_d old_o : List ℕ) (r : PlanRead) (n p : ℕ) → refuses n p old_d old_o ≡ read_gives bs old_d old_o → {ds os : List ℕ}
     → Reads bs old_d old_o r ds os → RefusedAt n p r old_d ds old_o os
-unfolding read_said
-refused_so bs old_d old_o n p e {r} {ds} {os} w = no_second_reading bs old_d old_o r (ReadRefused n p) ds old_d os old_o w e
+refused_so bs old_d old_o r n p e w =
+    let same = w ∙ sym e in (
+      ap (λ (g : ReadGives). g.says) same,
+      ap (λ (g : ReadGives). g.leaves.delays) same,
+      ap (λ (g : ReadGives). g.leaves.offsets) same,
+    )
 
 module _ (k : Link) (ds os old : List ℕ) (r : PlanWritten) (new : List ℕ) (w : Writes k ds os old r new) where
   -- the file in the front of the buffer
-  file_of : (n : ℕ) → r ≡ File n → (ClearPlan k ds os) × (take n new ≡ plan_bytes k ds os)
+  file_of : (n : ℕ) → r ≡ Ok n → (ClearPlan k ds os) × (take n new ≡ plan_bytes k ds os)
   unfolding written_said write_gives write_faults
   file_of n e =
       let t = let_through (keeping refuses_write old) (first (write_faults k ds os (length old)))
@@ -74,42 +76,46 @@ module _ (k : Link) (ds os old : List ℕ) (r : PlanWritten) (new : List ℕ) (w
       (clear, rw (long, left) (take-append_seam (plan_bytes k ds os) (drop (length (plan_bytes k ds os)) old)))
 
   -- "The writer writes clear plans only"
-  pub writes_clear_only : (n : ℕ) → r ≡ File n → ClearPlan k ds os
+  pub writes_clear_only : (n : ℕ) → r ≡ Ok n → ClearPlan k ds os
   writes_clear_only n e = (file_of n e).0
 
   -- and where there is room it does: the plan's bytes go into the front of the buffer
   pub writes_its_bytes : ClearPlan k ds os → length (plan_bytes k ds os) ≤ length old
-      → (r ≡ File (length (plan_bytes k ds os))) × (new ≡ on_front (plan_bytes k ds os) old)
+      → (r ≡ Ok (length (plan_bytes k ds os))) × (new ≡ on_front (plan_bytes k ds os) old)
   unfolding written_said
   writes_its_bytes c room =
-      no_second_writing k ds os old r (File _) new _ w (write_done k ds os old (sym (clear_fine k ds os c.0 c.1)) room)
+      no_second_writing k ds os old r (Ok _) new _ w (write_done k ds os old (sym (clear_fine k ds os c.0 c.1)) room)
 
   -- "18 plan to write .. isn't clear", and nothing is written
   pub not_clear_not_written : GoodPlan k ds os → (Clear k.period (span_of k) ds os → ⊥)
-      → (i : ℕ) × (j : ℕ) × (c : ℕ) × FirstCollision k.period (span_of k) ds os i j c × (r ≡ WriteRefused not_clear j) × (new ≡ old)
-  unfolding written_said
+      → (i : ℕ) × (j : ℕ) × (c : ℕ) × FirstCollision k.period (span_of k) ds os i j c × (written_said r ≡ refuses_write not_clear j) × (new ≡ old)
   not_clear_not_written g n =
       let u = unclear k ds os g n in
-      let fault = write_fault k ds os old not_clear u.0 u.1.judged in
-      let same = no_second_writing k ds os old r (WriteRefused not_clear u.0) new old w fault in
-      (u.1.earlier, u.0, u.1.crossing, u.1.first_one, same.0, same.1)
+      let same = w ∙ sym (write_fault k ds os old not_clear u.0 u.1.judged) in (
+        u.1.earlier,
+        u.0,
+        u.1.crossing,
+        u.1.first_one,
+        ap (λ (o : Outcome WrittenSaid (List ℕ)). o.says) same,
+        ap (λ (o : Outcome WrittenSaid (List ℕ)). o.leaves) same,
+      )
 
   -- "A plan written to a file reads back the same"
-  pub read_what_was_written : (n : ℕ) → r ≡ File n → (old_d old_o : List ℕ) → length ds ≤ length old_d → length os ≤ length old_o
+  pub read_what_was_written : (n : ℕ) → r ≡ Ok n → (old_d old_o : List ℕ) → length ds ≤ length old_d → length os ≤ length old_o
       → (q : PlanRead) (ds' os' : List ℕ) → Reads (take n new) old_d old_o q ds' os'
-      → (q ≡ Plan k (length ds)) × (ds' ≡ on_front ds old_d) × (os' ≡ on_front os old_o)
+      → (q ≡ plan_of k (length ds)) × (ds' ≡ on_front ds old_d) × (os' ≡ on_front os old_o)
   unfolding read_said
   read_what_was_written n e old_d old_o h l q ds' os' v =
       let f = file_of n e in
-      no_second_reading (plan_bytes k ds os) old_d old_o q (Plan k (length ds)) ds' (on_front ds old_d) os' (on_front os old_o)
+      no_second_reading (plan_bytes k ds os) old_d old_o q (plan_of k (length ds)) ds' (on_front ds old_d) os' (on_front os old_o)
       (rw f.1 at v) (reads_back k ds os f.0 old_d old_o h l)
 
 -- "each accepted file is the only one for its plan": no file for two plans,
-pub one_plan : (k k' : Link) (ds ds' os os' old old' : List ℕ) (n n' : ℕ) (new new' : List ℕ) → Writes k ds os old (File n) new
-    → Writes k' ds' os' old' (File n') new' → take n new ≡ take n' new' → (k ≡ k') × (ds ≡ ds') × (os ≡ os')
+pub one_plan : (k k' : Link) (ds ds' os os' old old' : List ℕ) (n n' : ℕ) (new new' : List ℕ) → Writes k ds os old (Ok n) new
+    → Writes k' ds' os' old' (Ok n') new' → take n new ≡ take n' new' → (k ≡ k') × (ds ≡ ds') × (os ≡ os')
 one_plan k k' ds ds' os os' old old' n n' new new' w w' e =
-    let f = file_of k ds os old (File n) new w n refl in
-    let f' = file_of k' ds' os' old' (File n') new' w' n' refl in
+    let f = file_of k ds os old (Ok n) new w n refl in
+    let f' = file_of k' ds' os' old' (Ok n') new' w' n' refl in
     let bytes : plan_bytes k ds os ≡ plan_bytes k' ds' os' = sym f.1 ∙ e ∙ f'.1 in
     let means = means_its_plan k ds os f.0 in
     let means' = means_its_plan k' ds' os' f'.0 in
@@ -117,45 +123,45 @@ one_plan k k' ds ds' os os' old old' n n' new new' w w' e =
     (cc, cc, cc)
 
 -- every accepted file is the bytes that writing its plan gives,
-pub accepted_is_written : (bs old_d old_o : List ℕ) → Bytes bs → (k : Link) (n : ℕ) (ds os : List ℕ) → Reads bs old_d old_o (Plan k n) ds os
+pub accepted_is_written : (bs old_d old_o : List ℕ) → Bytes bs → (k : Link) (n : ℕ) (ds os : List ℕ) → Reads bs old_d old_o (plan_of k n) ds os
     → AcceptedFile bs old_d old_o k n ds os
 accepted_is_written = accepted_file
 
 -- the same as the reader's contract says it,
 pub is_file_of : (bs old_d old_o ds os : List ℕ) (r : PlanRead) → Bytes bs → Reads bs old_d old_o r ds os → IsFileOf r bs ds os
-is_file_of bs old_d old_o ds os (ReadRefused n p) h w = tt
-is_file_of bs old_d old_o ds os (Plan k n) h w =
-    let a = accepted_file bs old_d old_o h k n ds os w in
+is_file_of bs old_d old_o ds os (Err f) h w = tt
+is_file_of bs old_d old_o ds os (Ok p) h w =
+    let a = accepted_file bs old_d old_o h p.link p.rows ds os w in
     rw (a.front_delays, a.front_offsets) a.bytes
 
 -- and no two files for one plan
 pub one_file : (bs bs' old_d old_d' old_o old_o' : List ℕ) → Bytes bs → Bytes bs' → (k : Link) (n : ℕ) (ds ds' os os' : List ℕ)
-    → Reads bs old_d old_o (Plan k n) ds os → Reads bs' old_d' old_o' (Plan k n) ds' os' → take n ds ≡ take n ds' → take n os ≡ take n os'
+    → Reads bs old_d old_o (plan_of k n) ds os → Reads bs' old_d' old_o' (plan_of k n) ds' os' → take n ds ≡ take n ds' → take n os ≡ take n os'
     → bs ≡ bs'
 one_file bs bs' old_d old_d' old_o old_o' h h' k n ds ds' os os' w w' e f =
-    is_file_of bs old_d old_o ds os (Plan k n) h w ∙ rw (e, f) (sym (is_file_of bs' old_d' old_o' ds' os' (Plan k n) h' w'))
+    is_file_of bs old_d old_o ds os (plan_of k n) h w ∙ rw (e, f) (sym (is_file_of bs' old_d' old_o' ds' os' (plan_of k n) h' w'))
 
 module _ (k : Link) (ds os : List ℕ) (g : GoodPlan k ds os) (old_d old_o : List ℕ) (r : PlanRead) (ds' os' : List ℕ) where
   -- with bytes added at its end a file is 22, at the first of them
   pub bytes_added : (b : ℕ) (bs : List ℕ) → Reads (plan_bytes k ds os ++ (b ∷ bs)) old_d old_o r ds' os'
       → RefusedAt left_over (length (plan_bytes k ds os)) r old_d ds' old_o os'
   unfolding read_gives delivered
-  bytes_added b bs = refused_so _ old_d old_o left_over _ (rw (added_means k ds os b bs g))
+  bytes_added b bs = refused_so _ old_d old_o r left_over _ (rw (added_means k ds os b bs g))
 
   -- cut anywhere it is 19, at the first byte of the tag or number that was cut
   pub bytes_cut : (m : ℕ) → m < length (plan_bytes k ds os) → Reads (take m (plan_bytes k ds os)) old_d old_o r ds' os'
       → RefusedAt cut_off (place_of k ds os m) r old_d ds' old_o os'
   unfolding read_gives delivered
-  bytes_cut m h = refused_so _ old_d old_o cut_off _ (rw (cut_anywhere k ds os m g h))
+  bytes_cut m h = refused_so _ old_d old_o r cut_off _ (rw (cut_anywhere k ds os m g h))
 
 -- "only a cut file is worth fetching again": of an accepted file
-module _ (bs old_d old_o : List ℕ) (h : Bytes bs) (k : Link) (n : ℕ) (ds os : List ℕ) (w : Reads bs old_d old_o (Plan k n) ds os)
+module _ (bs old_d old_o : List ℕ) (h : Bytes bs) (k : Link) (n : ℕ) (ds os : List ℕ) (w : Reads bs old_d old_o (plan_of k n) ds os)
     (old_d' old_o' : List ℕ) (r : PlanRead) (ds' os' : List ℕ) where
   its_plan : GoodPlan k (take n ds) (take n os)
   its_plan = let a = accepted_file bs old_d old_o h k n ds os w in rw (a.front_delays, a.front_offsets) a.clear.0
 
   its_bytes : bs ≡ plan_bytes k (take n ds) (take n os)
-  its_bytes = is_file_of bs old_d old_o ds os (Plan k n) h w
+  its_bytes = is_file_of bs old_d old_o ds os (plan_of k n) h w
 
   -- each proper front is 19, and is nothing else
   pub front_is_cut : (m : ℕ) → m < length bs → Reads (take m bs) old_d' old_o' r ds' os'
@@ -170,26 +176,27 @@ module _ (bs old_d old_o : List ℕ) (h : Bytes bs) (k : Link) (n : ℕ) (ds os 
       rw its_bytes (bytes_added k (take n ds) (take n os) its_plan old_d' old_o' r ds' os' b xs (rw its_bytes at v))
 
 -- so a file that is refused with another number than 19 is not mended by what is missing: no longer file that begins so is accepted
-pub only_cut_is_mended : (bs old_d old_o : List ℕ) (n at : ℕ) (ds os : List ℕ) → Reads bs old_d old_o (ReadRefused n at) ds os
-    → (n ≡ cut_off → ⊥) → (b : ℕ) (xs old_d' old_o' : List ℕ) → Bytes (bs ++ (b ∷ xs)) → (k : Link) (m : ℕ) (ds' os' : List ℕ)
-    → Reads (bs ++ (b ∷ xs)) old_d' old_o' (Plan k m) ds' os' → ⊥
-only_cut_is_mended bs old_d old_o n at ds os w other b xs old_d' old_o' h k m ds' os' v =
+pub only_cut_is_mended : (bs old_d old_o : List ℕ) (f : Fault) (ds os : List ℕ) → Reads bs old_d old_o (Err f) ds os
+    → (number_of f.refusal ≡ cut_off → ⊥) → (b : ℕ) (xs old_d' old_o' : List ℕ) → Bytes (bs ++ (b ∷ xs)) → (k : Link) (m : ℕ) (ds' os' : List ℕ)
+    → Reads (bs ++ (b ∷ xs)) old_d' old_o' (plan_of k m) ds' os' → ⊥
+unfolding read_said
+only_cut_is_mended bs old_d old_o f ds os w other b xs old_d' old_o' h k m ds' os' v =
     let inside : length bs < length (bs ++ (b ∷ xs)) = omega (arith, length-append bs (b ∷ xs)) in
     let front : take (length bs) (bs ++ (b ∷ xs)) ≡ bs = take-append_seam bs (b ∷ xs) in
     let longer = bs ++ (b ∷ xs) in
-    let cut = front_is_cut longer old_d' old_o' h k m ds' os' v old_d old_o (ReadRefused n at) ds os (length bs) inside (rw front w) in
-    other (cc cut.0)
+    let cut = front_is_cut longer old_d' old_o' h k m ds' os' v old_d old_o (Err f) ds os (length bs) inside (rw front w) in
+    other (ap (λ (s : ReadSaid). s.number) cut.0)
 
 -- "Please split it by cause": each of 16, 19, 20, 21 and 22 is given exactly where its cause is the first fault
 module _ (bs old_d old_o : List ℕ) (r : PlanRead) (ds os : List ℕ) (w : Reads bs old_d old_o r ds os) (n at : ℕ) where
-  pub told_by_cause : FormFault bs n at ↔ ((r ≡ ReadRefused n at) × (form_number n ≡ true))
+  pub told_by_cause : FormFault bs n at ↔ ((read_said r ≡ refuses_read n at) × (form_number n ≡ true))
   unfolding read_gives delivered
   told_by_cause = (there, back)
     where
-      there : FormFault bs n at → (r ≡ ReadRefused n at) × (form_number n ≡ true)
-      there f = ((refused_so bs old_d old_o n at (rw (form_fault_refused bs n at f)) w).0, form_number_lem bs n at f)
+      there : FormFault bs n at → (read_said r ≡ refuses_read n at) × (form_number n ≡ true)
+      there f = ((refused_so bs old_d old_o r n at (rw (form_fault_refused bs n at f)) w).0, form_number_lem bs n at f)
 
-      back : (r ≡ ReadRefused n at) × (form_number n ≡ true) → FormFault bs n at
+      back : (read_said r ≡ refuses_read n at) × (form_number n ≡ true) → FormFault bs n at
       back f = only_form_faults bs n at f.1 (refused_means bs old_d old_o ds os n at f.1 (rw f.0 at w))
 
 -- no file has two of these faults
@@ -200,7 +207,7 @@ one_cause bs n n' at at' f g =
 
 -- "16 keeps the wrong tag", "for the tag always 0"
 pub wrong_tag_exactly : (bs old_d old_o : List ℕ) (r : PlanRead) (ds os : List ℕ) → Reads bs old_d old_o r ds os → (at : ℕ)
-    → (r ≡ ReadRefused wrong_tag at) ↔ ((at ≡ 0) × Differ bs tag)
+    → (read_said r ≡ refuses_read wrong_tag at) ↔ ((at ≡ 0) × Differ bs tag)
 unfolding form_number
 wrong_tag_exactly bs old_d old_o r ds os w at =
     let told = told_by_cause bs old_d old_o r ds os w wrong_tag at in
@@ -226,7 +233,7 @@ module _ (bs : List ℕ) (k : Link) (n at : ℕ) (w : Rows) (end : ℕ) (t : beg
 
   pub left_over_first : end < length bs → RefusedAt left_over end r old_d ds old_o os
   left_over_first h =
-      refused_so bs old_d old_o left_over end (sym (closes_so ∙ bytes_left_over bs k w.delays w.offsets end old_d old_o h)) v
+      refused_so bs old_d old_o r left_over end (sym (closes_so ∙ bytes_left_over bs k w.delays w.offsets end old_d old_o h)) v
 
   pub after_the_last_number : Bytes bs → length bs ≤ end → (Clear k.period (span_of k) w.delays w.offsets → ⊥)
       → (i : ℕ) × (j : ℕ) × (c : ℕ) × FirstCollision k.period (span_of k) w.delays w.offsets i j c
@@ -234,4 +241,4 @@ module _ (bs : List ℕ) (k : Link) (n at : ℕ) (w : Rows) (end : ℕ) (t : beg
   after_the_last_number b h c =
       let u = unclear k w.delays w.offsets (got_good bs k n at w end b e f) c in
       let closed = unclear_closed bs k w.delays w.offsets end old_d old_o h not_clear u.0 u.1.judged in
-      (u.1.earlier, u.0, u.1.crossing, u.1.first_one, refused_so bs old_d old_o not_clear u.0 (sym (closes_so ∙ closed)) v)
+      (u.1.earlier, u.0, u.1.crossing, u.1.first_one, refused_so bs old_d old_o r not_clear u.0 (sym (closes_so ∙ closed)) v)

@@ -6,26 +6,31 @@ use native.Mathlib.Omega.{arith}
 use native.Mathlib.Numerals.{add-one}
 use lib.ListN.{length, take, drop, set, length-drop, length-set}
 use lib.Seq.{take-suc-set}
+use Rattle.ground.specs.Refusals.{number_of}
 use Rattle.ground.proofs.Faults.{below, above, inside}
-use Rattle.planfile.specs.Number.{read_number, form_fault}
+use Rattle.planfile.specs.Number.{Value, formed, refusal_of, read_number, form_fault}
 use Rattle.planfile.specs.FileMeaning.{got, stopped, ranged, number, row, rows}
-use Rattle.planfile.specs.declared.Number.{Number}
-use Rattle.planfile.specs.declared.Number.TheVariants.{Value, Cut, TooLong, Needless}
-use Rattle.planfile.proofs.NoValue.{NoValue}
+use Rattle.planfile.specs.declared.Malformed.{Malformed}
+use Rattle.planfile.specs.declared.Malformed.TheVariants.{Cut as IsCut, TooLong as IsTooLong, Needless as IsNeedless}
 use Rattle.planfile.proofs.Numbers.{small}
 
-form_stops : (at lo hi fault : ℕ) (q : Number) → NoValue q → stopped (form_fault q) at ≡ ranged q at lo hi fault
-form_stops at lo hi fault (Value v n) h = absurd (h v n refl)
-form_stops at lo hi fault Cut h = refl
-form_stops at lo hi fault TooLong h = refl
-form_stops at lo hi fault Needless h = refl
+form_stops : (at lo hi fault : ℕ) (m : Malformed) → stopped (form_fault (formed m)) at ≡ ranged (formed m) at lo hi fault
+form_stops at lo hi fault IsCut = refl
+form_stops at lo hi fault IsTooLong = refl
+form_stops at lo hi fault IsNeedless = refl
+
+-- what is wrong with a form has one number
+pub refusal_number : (m : Malformed) → number_of (refusal_of m) ≡ form_fault (formed m)
+unfolding form_fault
+refusal_number IsCut = refl
+refusal_number IsTooLong = refl
+refusal_number IsNeedless = refl
 
 -- a number: its form, then its range
 module _ (bs : List ℕ) (at lo hi fault : ℕ) where
-  pub number_form : (q : Number) → q ≡ read_number (drop at bs) → NoValue q → (n : ℕ) → n ≡ form_fault q →
-      stopped n at ≡ number bs at lo hi fault
+  pub number_form : (m : Malformed) → formed m ≡ read_number (drop at bs) → stopped (form_fault (formed m)) at ≡ number bs at lo hi fault
   unfolding number
-  number_form q e h n f = rw (← e, f) (form_stops at lo hi fault q h)
+  number_form m e = rw (← e) (form_stops at lo hi fault m)
 
   module _ (v n : ℕ) (e : read_number (drop at bs) ≡ Value v n) where
     pub number_low : v < lo → stopped fault at ≡ number bs at lo hi fault

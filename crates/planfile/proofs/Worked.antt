@@ -8,6 +8,7 @@ use native.Mathlib.Omega.{arith}
 use lib.Dec.{ltb}
 use lib.ListN.{length, get_or, take, replicate}
 use borrow.Author.Tests.{ltb-true, not-false}
+use Rattle.std.specs.Prelude.{Some, Ok}
 use Rattle.ground.specs.Judging.{first, outside, and_then}
 use Rattle.ground.specs.Least.{least, one_more, some}
 use Rattle.ground.specs.Words.{begins}
@@ -18,19 +19,16 @@ use Rattle.link.specs.Refusal.{link_faults, row_faults, offset_faults}
 use Rattle.link.specs.declared.Link.{Link}
 use Rattle.checker.specs.Judging.{clear_faults}
 use Rattle.checker.specs.Order.{FirstCollision}
-use Rattle.checker.specs.declared.Checked.TheVariants.{Collision}
+use Rattle.link.specs.declared.Crossing.TheVariants.{Second}
+use Rattle.checker.specs.declared.Collision.{Collision}
 use Rattle.checker.proofs.Judging.{fine_clear}
 use Rattle.checker.proofs.Promises.{collision_is_first}
 use Rattle.checker.proofs.Worked.{collides, first_named, not_clear}
 use Rattle.planfile.specs.Bytes.{Bytes}
-use Rattle.planfile.specs.Number.{limit, groups, number_bytes, ending, onto, groups_read, read_number}
+use Rattle.planfile.specs.Number.{Needless, limit, groups, number_bytes, ending, onto, groups_read, read_number}
 use Rattle.planfile.specs.Format.{tag, header_bytes, rows_bytes, plan_bytes, rows_parts, numbers_parts, plan_parts, first_byte, place_of}
 use Rattle.planfile.specs.FileMeaning.{got, number, header, row, rows, plan, meaning}
-use Rattle.planfile.specs.declared.Number.TheVariants.{Needless}
-use Rattle.planfile.specs.declared.PlanRead.{PlanRead}
-use Rattle.planfile.specs.declared.PlanRead.TheVariants.{Plan}
-use Rattle.planfile.specs.declared.PlanWritten.{PlanWritten}
-use Rattle.planfile.specs.declared.PlanWritten.TheVariants.{File, Refused}
+use Rattle.planfile.specs.Answer.{PlanRead, plan_of, PlanWritten, written_said, refuses_write}
 use Rattle.planfile.proofs.Accepted.{ClearPlan, means_its_plan, AcceptedFile}
 use Rattle.planfile.proofs.Promises.{Writes, Reads, RefusedAt, writes_clear_only, writes_its_bytes, not_clear_not_written}
 use Rattle.planfile.proofs.Promises.{read_what_was_written, one_plan, accepted_is_written, one_file, bytes_added, bytes_cut}
@@ -97,30 +95,30 @@ eights = 8 ∷ 8 ∷ 8 ∷ 8 ∷ []
 
 -- whatever the writer answers, and the reader of what it wrote
 module _ (r : PlanWritten) (new : List ℕ) (w : Writes first_link delays offsets buffer r new) where
-  pub first_table_written : (r ≡ File 13) × (new ≡ file ++ (9 ∷ 9 ∷ []))
+  pub first_table_written : (r ≡ Ok 13) × (new ≡ file ++ (9 ∷ 9 ∷ []))
   first_table_written =
       rw file_of_the_first_table at
       (writes_its_bytes first_link delays offsets buffer r new w first_table_is_clear (rw file_of_the_first_table (omega arith)))
 
   pub first_table_read_back : (q : PlanRead) (ds os : List ℕ) → Reads (take 13 new) eights eights q ds os
-      → (q ≡ Plan first_link 3) × (ds ≡ 0 ∷ 3 ∷ 7 ∷ 8 ∷ []) × (os ≡ 0 ∷ 2 ∷ 5 ∷ 8 ∷ [])
+      → (q ≡ plan_of first_link 3) × (ds ≡ 0 ∷ 3 ∷ 7 ∷ 8 ∷ []) × (os ≡ 0 ∷ 2 ∷ 5 ∷ 8 ∷ [])
   first_table_read_back =
       read_what_was_written first_link delays offsets buffer r new w 13 first_table_written.0 eights eights (omega arith) (omega arith)
 
   pub so_it_is_clear : ClearPlan first_link delays offsets
   so_it_is_clear = writes_clear_only first_link delays offsets buffer r new w 13 first_table_written.0
 
-  pub only_the_first_table : (k : Link) (ds os old : List ℕ) (n : ℕ) (other : List ℕ) → Writes k ds os old (File n) other
+  pub only_the_first_table : (k : Link) (ds os old : List ℕ) (n : ℕ) (other : List ℕ) → Writes k ds os old (Ok n) other
       → take 13 new ≡ take n other → (first_link ≡ k) × (delays ≡ ds) × (offsets ≡ os)
   only_the_first_table k ds os old n other v =
       one_plan first_link k delays ds offsets os buffer old 13 n new other (rw first_table_written.0 at w) v
 
 -- whatever the reader answers on the file, with room for the rows
-module _ (ds os : List ℕ) (w : Reads file eights eights (Plan first_link 3) ds os) where
+module _ (ds os : List ℕ) (w : Reads file eights eights (plan_of first_link 3) ds os) where
   pub the_file_is_written : AcceptedFile file eights eights first_link 3 ds os
   the_file_is_written = accepted_is_written file eights eights file_bytes first_link 3 ds os w
 
-  pub the_only_file : (bs ds' os' : List ℕ) → Bytes bs → Reads bs eights eights (Plan first_link 3) ds' os'
+  pub the_only_file : (bs ds' os' : List ℕ) → Bytes bs → Reads bs eights eights (plan_of first_link 3) ds' os'
       → take 3 ds ≡ take 3 ds' → take 3 os ≡ take 3 os' → file ≡ bs
   the_only_file bs ds' os' h v =
       one_file file bs eights eights eights eights file_bytes h first_link 3 ds ds' os os' w v
@@ -168,15 +166,18 @@ others = 0 ∷ 2 ∷ 4 ∷ []
 abbrev unclear_file : List ℕ
 unclear_file = 0x50 ∷ 0x4D ∷ 0x41 ∷ 0x01 ∷ 0x0A ∷ 0x02 ∷ 0x03 ∷ 0x00 ∷ 0x00 ∷ 0x03 ∷ 0x02 ∷ 0x07 ∷ 0x04 ∷ []
 
+abbrev rows_0_and_2 : Collision
+rows_0_and_2 = record { earlier = 0; later = 2; crossing = Second }
+
 -- its first collision has row 2 as the later one
 later_row : {i j c : ℕ} → FirstCollision 10 2 delays others i j c → 2 ≡ j
 later_row f =
     ⊎_elim (λ h. ⊎_elim (λ k. absurd (omega arith)) (λ k. absurd (omega (arith, k.0))) (f.least 0 2 _ first_named.collides))
     (λ h. h.0) (first_named.least _ _ _ f.collides)
 
-pub not_written : (r : PlanWritten) (new : List ℕ) → Writes first_link delays others buffer r new → (r ≡ Refused 18 2) × (new ≡ buffer)
+pub not_written : (r : PlanWritten) (new : List ℕ) → Writes first_link delays others buffer r new → (written_said r ≡ refuses_write 18 2) × (new ≡ buffer)
 not_written r new w =
-    let good = (collision_is_first first_link delays others (Collision 0 2 2) collides 0 2 2 refl).0 in
+    let good = (collision_is_first first_link delays others (Ok (Some rows_0_and_2)) collides rows_0_and_2 refl).0 in
     let v = not_clear_not_written first_link delays others buffer r new w good not_clear in
     (rw (later_row v.3) v.4, v.5)
 

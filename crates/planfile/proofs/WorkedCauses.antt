@@ -7,7 +7,10 @@ use native.Mathlib.Omega.{arith}
 use lib.Dec.{ltb, eqb}
 use lib.ListN.{length, get_or}
 use borrow.Author.Tests.{ltb-false, eqb-true, not-false}
+use Rattle.std.specs.Prelude.{Err}
 use Rattle.ground.specs.Judging.{outside}
+use Rattle.ground.specs.declared.Fault.{Fault}
+use Rattle.ground.specs.declared.Refusal.TheVariants.{LongNumber}
 use Rattle.ground.specs.Least.{least, one_more, some}
 use Rattle.ground.specs.Words.{begins, Differ}
 use Rattle.ground.proofs.Minimum.{none_has}
@@ -16,11 +19,9 @@ use Rattle.planfile.specs.Bytes.{Bytes}
 use Rattle.planfile.specs.Number.{ending, onto, groups_read, read_number, form_fault}
 use Rattle.planfile.specs.Format.{tag, plan_parts, first_byte}
 use Rattle.planfile.specs.FileMeaning.{number, Head, header, row, rows, body, meaning}
-use Rattle.planfile.specs.Answer.{read_said, delivered, read_gives}
+use Rattle.planfile.specs.Answer.{PlanRead, plan_of, refuses_read, read_said, delivered, read_gives}
 use Rattle.planfile.specs.FormFault.{TopBits, EndsInTag, cut, too_long, needless, RowAt, period, size, row_count, delay, offset}
 use Rattle.planfile.specs.FormFault.{FormFault, tag_wrong, cut_tag, bad_number, bytes_left_over}
-use Rattle.planfile.specs.declared.PlanRead.{PlanRead}
-use Rattle.planfile.specs.declared.PlanRead.TheVariants.{Plan, Refused}
 use Rattle.planfile.proofs.Promises.{Reads, RefusedAt, front_is_cut, more_is_left_over, only_cut_is_mended}
 use Rattle.planfile.proofs.Promises.{told_by_cause, one_cause, wrong_tag_exactly}
 use Rattle.planfile.proofs.Accepted.{reads_back}
@@ -36,7 +37,7 @@ top_bits m bs e i l = ltb-false _ _ (none_has (λ i. ltb (get_or bs i 0) 128) m 
 
 -- whatever answer meets the reader's contract on the bytes, it is this refusal
 abbrev pub Refuses : List ℕ → ℕ → ℕ → Type 0
-Refuses bs n at = (r : PlanRead) (ds os : List ℕ) → Reads bs [] [] r ds os → r ≡ Refused n at
+Refuses bs n at = (r : PlanRead) (ds os : List ℕ) → Reads bs [] [] r ds os → read_said r ≡ refuses_read n at
 
 answers : (bs : List ℕ) (n at : ℕ) → FormFault bs n at → Refuses bs n at
 answers bs n at f r ds os w = ((told_by_cause bs [] [] r ds os w n at).0 f).0
@@ -81,13 +82,16 @@ pub nothing_else_is_wrong : (n at : ℕ) → FormFault (behind_tag four) n at �
 nothing_else_is_wrong n at f = one_cause (behind_tag four) n 20 at 4 f four_are_too_many
 
 -- no bytes behind them make a file that is accepted
-read_so : Reads (behind_tag four) [] [] (Refused 20 4) [] []
+abbrev four_refused : Fault
+four_refused = record { refusal = LongNumber; place = 4 }
+
+read_so : Reads (behind_tag four) [] [] (Err four_refused) [] []
 unfolding read_said read_gives delivered meaning body header number read_number groups_read onto form_fault begins
 read_so = refl
 
 pub never_mended : (b : ℕ) (xs old_d old_o : List ℕ) → Bytes (behind_tag (four ++ (b ∷ xs))) → (k : Link) (m : ℕ)
-    → (ds os : List ℕ) → Reads (behind_tag (four ++ (b ∷ xs))) old_d old_o (Plan k m) ds os → ⊥
-never_mended = only_cut_is_mended (behind_tag four) [] [] 20 4 [] [] read_so (λ e. omega arith)
+    → (ds os : List ℕ) → Reads (behind_tag (four ++ (b ∷ xs))) old_d old_o (plan_of k m) ds os → ⊥
+never_mended = only_cut_is_mended (behind_tag four) [] [] four_refused [] [] read_so (λ e. omega arith)
 
 pub fourth_byte_0 : Refuses (behind_tag (0x80 ∷ 0x80 ∷ 0x80 ∷ 0x00 ∷ [])) 21 4
 unfolding begins least one_more
@@ -140,7 +144,7 @@ one_left_over =
     (record { from = 7; above = record { delays = 0 ∷ []; offsets = 0 ∷ [] }; headed = refl; rowed = refl }) (omega arith))
 
 -- the first table's file is accepted; its first two bytes, and the file with a byte behind it
-file_read : Reads file eights eights (Plan first_link 3) (0 ∷ 3 ∷ 7 ∷ 8 ∷ []) (0 ∷ 2 ∷ 5 ∷ 8 ∷ [])
+file_read : Reads file eights eights (plan_of first_link 3) (0 ∷ 3 ∷ 7 ∷ 8 ∷ []) (0 ∷ 2 ∷ 5 ∷ 8 ∷ [])
 unfolding read_said
 file_read =
     rw file_of_the_first_table at (reads_back first_link delays offsets first_table_is_clear eights eights (omega arith) (omega arith))

@@ -1,8 +1,10 @@
 -- What the reader and the writer answer, and what they leave in lent memory.
-use Rattle.std.specs.Prelude.{◌≡◌, cond, ◌||◌, List, [], ◌∷◌, ℕ, ◌≤◌, ◌<◌, ltb, length, take}
+use Rattle.std.specs.Prelude.{◌≡◌, cond, ◌||◌, List, [], ◌∷◌, ℕ, ◌≤◌, ◌<◌, ltb, length, take, Result, Ok, Err}
 use Rattle.ground.specs.Judging.{Cause, when, and_then, first}
 use Rattle.ground.specs.Lent.{on_front}
 use Rattle.ground.specs.Protocol.{Outcome, gives, keeping, unless}
+use Rattle.ground.specs.Refusals.{number_of}
+use Rattle.ground.specs.declared.Fault.{Fault}
 use Rattle.link.specs.Limits.{max_rows, bad_length}
 use Rattle.link.specs.Range.{no_link}
 use Rattle.link.specs.declared.Link.{Link}
@@ -10,41 +12,45 @@ use Rattle.checker.specs.Judging.{clear_faults}
 use Rattle.planfile.specs.Format.{plan_bytes}
 use Rattle.planfile.specs.FileMeaning.{Step, got, stopped, Head, Row, Rows, Meaning, plan, refused, means}
 use Rattle.planfile.specs.FileMeaning.{closing, rest, meaning}
+use Rattle.planfile.specs.Number.{form_fault, formed}
+use Rattle.planfile.specs.declared.BadNumber.{BadNumber}
+use Rattle.planfile.specs.declared.BadNumber.TheVariants.{Malformed, OutOfRange}
 use Rattle.planfile.specs.declared.Taken.{Taken}
-use Rattle.planfile.specs.declared.Taken.TheVariants.{Value as TakenValue, Refused as TakenRefused}
 use Rattle.planfile.specs.declared.Header.{Header}
-use Rattle.planfile.specs.declared.Header.TheVariants.{Read as HeaderRead, Refused as HeaderRefused}
-use Rattle.planfile.specs.declared.RowRead.{RowRead}
-use Rattle.planfile.specs.declared.RowRead.TheVariants.{Row as OneRow, Refused as RowRefused}
-use Rattle.planfile.specs.declared.RowsRead.{RowsRead}
-use Rattle.planfile.specs.declared.RowsRead.TheVariants.{End, Refused as RowsRefused}
-use Rattle.planfile.specs.declared.PlanRead.{PlanRead}
-use Rattle.planfile.specs.declared.PlanRead.TheVariants.{Plan, Refused as ReadRefused}
-use Rattle.planfile.specs.declared.PlanWritten.{PlanWritten}
-use Rattle.planfile.specs.declared.PlanWritten.TheVariants.{File, Refused as WriteRefused}
+use Rattle.planfile.specs.declared.Row.{Row as OneRow}
+use Rattle.planfile.specs.declared.Plan.{Plan}
 
--- the inner answers as steps
-unfoldable pub taken : Taken → Step ℕ
-taken (TakenValue v next) = got v next
-taken (TakenRefused n p) = stopped n p
+-- the inner answers as steps; a number that is read at a place is refused there, and f numbers the caller's own refusals
+unfoldable pub taken_as : {R : Type 0} → (R → ℕ) → ℕ → Result Taken (BadNumber R) → Step ℕ
+taken_as f at (Ok t) = got t.value t.next
+taken_as f at (Err (Malformed m)) = stopped (form_fault (formed m)) at
+taken_as f at (Err (OutOfRange r)) = stopped (f r) at
 
-unfoldable pub headed : Header → Step Head
-headed (HeaderRead k n next) = got (record { link = k; rows = n }) next
-headed (HeaderRefused n p) = stopped n p
+unfoldable pub taken : Result Taken Fault → Step ℕ
+taken (Ok t) = got t.value t.next
+taken (Err f) = stopped (number_of f.refusal) f.place
+
+-- as the code says it
+abbrev pub HeaderRead : Type 0
+HeaderRead = Result Header Fault
+
+unfoldable pub headed : HeaderRead → Step Head
+headed (Ok h) = got (record { link = h.link; rows = h.rows }) h.next
+headed (Err f) = stopped (number_of f.refusal) f.place
 
 -- the ranges of a header that was read
-abbrev pub InRange : Header → Type 0
-InRange (HeaderRead k n next) = (0 < k.period) × (n ≤ max_rows)
-InRange (HeaderRefused n p) = Unit
+abbrev pub InRange : HeaderRead → Type 0
+InRange (Ok h) = (0 < h.link.period) × (h.rows ≤ max_rows)
+InRange (Err f) = Unit
 
-unfoldable pub rowed : RowRead → Step Row
-rowed (OneRow d o next) = got (record { delay = d; offset = o }) next
-rowed (RowRefused n p) = stopped n p
+unfoldable pub rowed : Result OneRow Fault → Step Row
+rowed (Ok r) = got (record { delay = r.delay; offset = r.offset }) r.next
+rowed (Err f) = stopped (number_of f.refusal) f.place
 
 -- all rows, with the two lists that they were put into
-unfoldable pub rowsed : RowsRead → List ℕ → List ℕ → Step Rows
-rowsed (End next) ds os = got (record { delays = ds; offsets = os }) next
-rowsed (RowsRefused n p) ds os = stopped n p
+unfoldable pub rowsed : Result ℕ Fault → List ℕ → List ℕ → Step Rows
+rowsed (Ok next) ds os = got (record { delays = ds; offsets = os }) next
+rowsed (Err f) ds os = stopped (number_of f.refusal) f.place
 
 pub data Verdict : Type 0 where
   done refusal : Verdict
@@ -63,9 +69,16 @@ reads_plan k n = record { verdict = done; number = 0; place = 0; link = k; rows 
 abbrev pub refuses_read : ℕ → ℕ → ReadSaid
 refuses_read n p = record { verdict = refusal; number = n; place = p; link = no_link; rows = 0 }
 
+-- as the code says it
+abbrev pub PlanRead : Type 0
+PlanRead = Result Plan Fault
+
+abbrev pub plan_of : Link → ℕ → PlanRead
+plan_of k n = Ok (record { link = k; rows = n })
+
 unfoldable pub read_said : PlanRead → ReadSaid
-read_said (Plan k n) = reads_plan k n
-read_said (ReadRefused n p) = refuses_read n p
+read_said (Ok w) = reads_plan w.link w.rows
+read_said (Err f) = refuses_read (number_of f.refusal) f.place
 
 -- the two lent lists
 pub record Lists : Type 0 where
@@ -103,7 +116,7 @@ abbrev pub closes : List ℕ → ℕ → Link → List ℕ → List ℕ → List
 closes bs end k ds os old_d old_o = delivered (closing bs k ds os end) old_d old_o
 
 -- what the reader gives whose header is h, the rows standing from a place on
-unfoldable pub rest_gives : List ℕ → ℕ → Header → List ℕ → List ℕ → ReadGives
+unfoldable pub rest_gives : List ℕ → ℕ → HeaderRead → List ℕ → List ℕ → ReadGives
 rest_gives bs at h old_d old_o = delivered (means (headed h) (λ x _. rest bs x at)) old_d old_o
 
 unfoldable pub read_gives : List ℕ → List ℕ → List ℕ → ReadGives
@@ -111,8 +124,8 @@ read_gives bs old_d old_o = delivered (meaning bs) old_d old_o
 
 -- a file that was read as a plan is the bytes of that plan, which stands in the fronts of ds and os
 abbrev pub IsFileOf : PlanRead → List ℕ → List ℕ → List ℕ → Type 0
-IsFileOf (Plan k n) bs ds os = bs ≡ plan_bytes k (take n ds) (take n os)
-IsFileOf (ReadRefused n p) bs ds os = Unit
+IsFileOf (Ok w) bs ds os = bs ≡ plan_bytes w.link (take w.rows ds) (take w.rows os)
+IsFileOf (Err f) bs ds os = Unit
 
 -- the paper's form of the writer's answer
 pub record WrittenSaid : Type 0 where
@@ -127,9 +140,13 @@ writes n = record { verdict = done; number = 0; place = 0; bytes = n }
 abbrev pub refuses_write : ℕ → ℕ → WrittenSaid
 refuses_write n p = record { verdict = refusal; number = n; place = p; bytes = 0 }
 
+-- as the code says it: how many bytes the file has
+abbrev pub PlanWritten : Type 0
+PlanWritten = Result ℕ Fault
+
 unfoldable pub written_said : PlanWritten → WrittenSaid
-written_said (File n) = writes n
-written_said (WriteRefused n p) = refuses_write n p
+written_said (Ok n) = writes n
+written_said (Err f) = refuses_write (number_of f.refusal) f.place
 
 -- "The writer writes clear plans only; it judges 5, 6, 8, 7, then 11 .., 17, 18, and last 11 if the output buffer is too short"
 unfoldable pub write_faults : Link → List ℕ → List ℕ → ℕ → List Cause

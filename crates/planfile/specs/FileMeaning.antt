@@ -7,10 +7,8 @@ use Rattle.link.specs.Limits.{max_period, max_delay, max_rows, bad_period, bad_s
 use Rattle.link.specs.declared.Link.{Link}
 use Rattle.checker.specs.Judging.{clear_faults}
 use Rattle.planfile.specs.Causes.{wrong_tag, cut_off, left_over}
-use Rattle.planfile.specs.Number.{read_number, form_fault}
+use Rattle.planfile.specs.Number.{Number, Value, Cut, TooLong, Needless, read_number, form_fault}
 use Rattle.planfile.specs.Format.{tag}
-use Rattle.planfile.specs.declared.Number.{Number}
-use Rattle.planfile.specs.declared.Number.TheVariants.{Value, Cut, TooLong, Needless}
 
 -- a thing that was read and the place after it, or a refusal
 pub data Step (A : Type 0) : Type 0 where

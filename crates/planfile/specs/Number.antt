@@ -1,8 +1,26 @@
 -- The number of the plan file: its bytes, and what bytes say of a number.
-use Rattle.std.specs.Prelude.{Bool, true, false, cond, List, [], ◌∷◌, ℕ, zero, suc, ◌+◌, ◌-◌, ◌*◌, ◌/◌, ◌%◌, ltb, eqb}
+use Rattle.std.specs.Prelude.{Bool, true, false, cond, List, [], ◌∷◌, ℕ, zero, suc, ◌+◌, ◌-◌, ◌*◌, ◌/◌, ◌%◌, ltb, eqb, Result, Ok, Err}
+use Rattle.ground.specs.declared.Refusal.{Refusal}
+use Rattle.ground.specs.declared.Refusal.TheVariants.{CutFile, LongNumber, NeedlessGroup}
 use Rattle.planfile.specs.Causes.{cut_off, overlong, needless_group}
-use Rattle.planfile.specs.declared.Number.{Number}
-use Rattle.planfile.specs.declared.Number.TheVariants.{Value, Cut, TooLong, Needless}
+use Rattle.planfile.specs.declared.Number.{Number as Counted}
+use Rattle.planfile.specs.declared.Malformed.{Malformed}
+use Rattle.planfile.specs.declared.Malformed.TheVariants.{Cut as IsCut, TooLong as IsTooLong, Needless as IsNeedless}
+
+-- what bytes say of a number: its value and how many bytes it takes, or what is wrong with its form
+pub data Number : Type 0 where
+  Value : ℕ → ℕ → Number
+  Cut TooLong Needless : Number
+
+-- the same as the code says it
+abbrev pub formed : Malformed → Number
+formed IsCut = Cut
+formed IsTooLong = TooLong
+formed IsNeedless = Needless
+
+unfoldable pub number_said : Result Counted Malformed → Number
+number_said (Ok n) = Value n.value n.length
+number_said (Err m) = formed m
 
 -- "groups of seven bits"
 abbrev pub group : ℕ
@@ -53,3 +71,9 @@ form_fault (Value v n) = 0
 form_fault Cut = cut_off
 form_fault TooLong = overlong
 form_fault Needless = needless_group
+
+-- the refusal of what is wrong
+abbrev pub refusal_of : Malformed → Refusal
+refusal_of IsCut = CutFile
+refusal_of IsTooLong = LongNumber
+refusal_of IsNeedless = NeedlessGroup

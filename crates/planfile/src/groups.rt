@@ -1,10 +1,9 @@
 // The number in groups of seven bits, over a slice and a place in it.
 ghost use Rattle.std.specs.Prelude.{◌≡◌, ◌+◌, ◌≤◌, ◌<◌, length, drop};
 ghost use Rattle.ground.specs.Lent.{Adds};
-ghost use Rattle.planfile.specs.Number.{more_groups, limit, groups, groups_read, number_bytes, read_number, form_fault};
+ghost use Rattle.planfile.specs.Number.{more_groups, limit, groups, groups_read, number_bytes, read_number, number_said};
 
-use crate::Number;
-use crate::causes::{CUT, NEEDLESS, TOO_LONG};
+use crate::{Malformed, Number};
 
 pub(crate) const GROUP: u32 = 128;
 
@@ -12,62 +11,38 @@ pub(crate) const GROUP: u32 = 128;
 pub(crate) const MORE_GROUPS: usize = 3;
 
 // What the bytes say where so many more groups may follow the next one.
-fn groups_at(bytes: &[u8], at: usize, more: usize, first: bool) -> Number
+fn groups_at(bytes: &[u8], at: usize, more: usize, first: bool) -> Result<Number, Malformed>
     requires { more ≤ more_groups }
-    ensures { result ≡ groups_read more first (drop at bytes.now) }
+    ensures { number_said result ≡ groups_read more first (drop at bytes.now) }
 {
     if at >= bytes.len() {
-        return Number::Cut;
+        return Err(Malformed::Cut);
     }
-    let b = bytes[at] as u32;
+    let b = u32::from(bytes[at]);
     if b >= GROUP {
         if more == 0 {
-            return Number::TooLong;
+            return Err(Malformed::TooLong);
         }
-        let rest = groups_at(bytes, at + 1, more - 1, false);
-        let Number::Value { value, length } = rest else {
-            return rest;
-        };
-        return Number::Value {
-            value: b % GROUP + GROUP * value,
-            length: length + 1,
-        };
+        let rest = groups_at(bytes, at + 1, more - 1, false)?;
+        return Ok(Number {
+            value: b % GROUP + GROUP * rest.value,
+            length: rest.length + 1,
+        });
     }
-    if b == 0 {
-        if first {
-            return Number::Value {
-                value: 0,
-                length: 1,
-            };
-        }
-        return Number::Needless;
+    if b == 0 && !first {
+        return Err(Malformed::Needless);
     }
-    Number::Value {
+    Ok(Number {
         value: b,
         length: 1,
-    }
+    })
 }
 
 // The number at a place.
-pub(crate) fn number_at(bytes: &[u8], at: usize) -> Number
-    ensures { result ≡ read_number (drop at bytes.now) }
+pub(crate) fn number_at(bytes: &[u8], at: usize) -> Result<Number, Malformed>
+    ensures { number_said result ≡ read_number (drop at bytes.now) }
 {
     groups_at(bytes, at, MORE_GROUPS, true)
-}
-
-// The refusal number of what is wrong, 0 where nothing is.
-pub(crate) fn form_fault(number: Number) -> u32
-    ensures { result ≡ form_fault number }
-{
-    match number {
-        Number::Value {
-            value: _,
-            length: _,
-        } => 0,
-        Number::Cut => CUT,
-        Number::TooLong => TOO_LONG,
-        Number::Needless => NEEDLESS,
-    }
 }
 
 // Writes the groups of a number from a place on, and answers the place after them.

@@ -1,151 +1,126 @@
 // The reader's steps, over a slice and a place in it.
-ghost use Rattle.std.specs.Prelude.{◌≡◌, [], ◌≤◌, ◌<◌, length, take};
+ghost use Rattle.std.specs.Prelude.{◌≡◌, ℕ, [], ◌≤◌, ◌<◌, length, take};
+ghost use Rattle.ground.specs.Refusals.{number_of as refusal_number};
 ghost use Rattle.planfile.specs.Bytes.{Bytes};
 ghost use Rattle.planfile.specs.FileMeaning.{after, number as number_of, header, tag_fault, tagged, row, rows as rows_of};
-ghost use Rattle.planfile.specs.Answer.{taken, headed, InRange, rowed, rowsed, Gives, closes, rest_gives};
+ghost use Rattle.planfile.specs.Answer.{taken_as, taken, headed, InRange, rowed, rowsed, Gives, closes, rest_gives};
 
-use crate::causes::{CUT, LEFT_OVER, WRONG_TAG};
-use crate::{Header, Number, PlanRead, RowRead, RowsRead, TAG, Taken, groups};
-use ground::Judged;
+use crate::{BadNumber, Header, Plan, Row, TAG, Taken, groups};
+use ground::{Fault, Refusal};
 use link::Link;
-use link::limits::{
-    BAD_DELAY, BAD_LENGTH, BAD_OFFSET, BAD_PERIOD, BAD_ROWS, BAD_SIZE, MAX_DELAY, MAX_PERIOD,
-    MAX_ROWS,
-};
+use link::limits::{MAX_DELAY, MAX_PERIOD, MAX_ROWS};
 
-// The number at a place: its form, then its range.
-pub fn take_number(bytes: &[u8], at: usize, low: u32, high: u32, fault: u32) -> Taken
-    ensures { taken result ≡ number_of bytes.now at low high fault }
+// The number at a place: its form, then its range, for which the caller has a refusal of its own.
+pub fn take_number<R: Copy>(
+    bytes: &[u8],
+    at: usize,
+    low: u32,
+    high: u32,
+    fault: R,
+) -> Result<Taken, BadNumber<R>>
+    ensures { (f : R → ℕ) → taken_as f at result ≡ number_of bytes.now at low high (f fault) }
 {
-    let got = groups::number_at(bytes, at);
-    let Number::Value { value, length } = got else {
-        return Taken::Refused {
-            number: groups::form_fault(got),
-            place: at,
-        };
-    };
-    if value < low {
-        return Taken::Refused {
-            number: fault,
-            place: at,
-        };
+    let number = groups::number_at(bytes, at)?;
+    if number.value < low || number.value > high {
+        return Err(BadNumber::OutOfRange(fault));
     }
-    if value > high {
-        return Taken::Refused {
-            number: fault,
-            place: at,
-        };
-    }
-    Taken::Value {
-        value,
-        next: at + length,
-    }
+    Ok(Taken {
+        value: number.value,
+        next: at + number.length,
+    })
 }
 
 // The place after a number that was read at a place; one that was refused is not passed over.
-pub fn after_number(at: usize, got: Taken) -> usize
-    ensures { result ≡ after at (taken got) }
+pub fn after_number<R: Copy>(at: usize, got: Result<Taken, BadNumber<R>>) -> usize
+    ensures { (f : R → ℕ) → result ≡ after at (taken_as f at got) }
 {
     match got {
-        Taken::Refused {
-            number: _,
-            place: _,
-        } => at,
-        Taken::Value { value: _, next } => next,
+        Ok(taken) => taken.next,
+        Err(_) => at,
+    }
+}
+
+// The number at a place, and the refusal that a number out of its range gets there.
+fn number_in(bytes: &[u8], at: usize, low: u32, high: u32, refusal: Refusal) -> Result<Taken, Fault>
+    ensures { taken result ≡ number_of bytes.now at low high (refusal_number refusal) }
+{
+    match take_number(bytes, at, low, high, refusal) {
+        Ok(taken) => Ok(taken),
+        Err(bad) => Err(Fault {
+            refusal: match bad {
+                BadNumber::Malformed(malformed) => Refusal::from(malformed),
+                BadNumber::OutOfRange(own) => own,
+            },
+            place: at,
+        }),
     }
 }
 
 // Period, size and the number of rows.
-fn read_numbers(bytes: &[u8], at: usize) -> Header
+fn read_numbers(bytes: &[u8], at: usize) -> Result<Header, Fault>
     ensures { headed result ≡ header bytes.now at }
 {
-    match take_number(bytes, at, 1, MAX_PERIOD, BAD_PERIOD) {
-        Taken::Refused { number, place } => Header::Refused { number, place },
-        Taken::Value {
-            value: period,
-            next: at_size,
-        } => match take_number(bytes, at_size, 1, period, BAD_SIZE) {
-            Taken::Refused { number, place } => Header::Refused { number, place },
-            Taken::Value {
-                value: size,
-                next: at_rows,
-            } => match take_number(bytes, at_rows, 1, MAX_ROWS as u32, BAD_ROWS) {
-                Taken::Refused { number, place } => Header::Refused { number, place },
-                Taken::Value { value: rows, next } => Header::Read {
-                    link: Link { period, size },
-                    rows: rows as usize,
-                    next,
-                },
-            },
+    let period = number_in(bytes, at, 1, MAX_PERIOD, Refusal::BadPeriod)?;
+    let size = number_in(bytes, period.next, 1, period.value, Refusal::BadSize)?;
+    let rows = number_in(bytes, size.next, 1, MAX_ROWS as u32, Refusal::BadRows)?;
+    Ok(Header {
+        link: Link {
+            period: period.value,
+            size: size.value,
         },
-    }
+        rows: rows.value as usize,
+        next: rows.next,
+    })
 }
 
 // What is wrong with a file that does not begin with the tag: it ends inside it, or it is none.
-fn tag_fault(bytes: &[u8]) -> u32
-    ensures { result ≡ tag_fault bytes.now }
+fn tag_refusal(bytes: &[u8]) -> Refusal
+    ensures { refusal_number result ≡ tag_fault bytes.now }
 {
     if ground::begins(bytes, &TAG) {
-        return CUT;
+        return Refusal::CutFile;
     }
-    WRONG_TAG
+    Refusal::WrongTag
 }
 
 // The tag, and the header at a place.
-pub fn read_header(bytes: &[u8], at: usize) -> Header
+pub fn read_header(bytes: &[u8], at: usize) -> Result<Header, Fault>
     ensures { (headed result ≡ tagged bytes.now at) × Bytes bytes.now }
 {
     if !ground::begins(&TAG, bytes) {
-        return Header::Refused {
-            number: tag_fault(bytes),
+        return Err(Fault {
+            refusal: tag_refusal(bytes),
             place: 0,
-        };
+        });
     }
     read_numbers(bytes, at)
 }
 
 // The place after a header that was read at a place, where the rows begin; one that was refused is not passed over.
-pub fn after_header(at: usize, head: Header) -> usize
+pub fn after_header(at: usize, head: Result<Header, Fault>) -> usize
     ensures { result ≡ after at (headed head) }
 {
     match head {
-        Header::Refused {
-            number: _,
-            place: _,
-        } => at,
-        Header::Read {
-            link: _,
-            rows: _,
-            next,
-        } => next,
+        Ok(header) => header.next,
+        Err(_) => at,
     }
 }
 
 // Delay and offset of one row.
-fn read_row(bytes: &[u8], at: usize, period: u32) -> RowRead
+fn read_row(bytes: &[u8], at: usize, period: u32) -> Result<Row, Fault>
     requires { 0 < period }
     ensures { rowed result ≡ row bytes.now period at }
 {
-    match take_number(bytes, at, 0, MAX_DELAY, BAD_DELAY) {
-        Taken::Refused { number, place } => RowRead::Refused { number, place },
-        Taken::Value {
-            value: delay,
-            next: at_offset,
-        } => match take_number(bytes, at_offset, 0, period - 1, BAD_OFFSET) {
-            Taken::Refused { number, place } => RowRead::Refused { number, place },
-            Taken::Value {
-                value: offset,
-                next,
-            } => RowRead::Row {
-                delay,
-                offset,
-                next,
-            },
-        },
-    }
+    let delay = number_in(bytes, at, 0, MAX_DELAY, Refusal::BadDelay)?;
+    let offset = number_in(bytes, delay.next, 0, period - 1, Refusal::BadOffset)?;
+    Ok(Row {
+        delay: delay.value,
+        offset: offset.value,
+        next: offset.next,
+    })
 }
 
-// All rows, into the front of two lists.
+// All rows, into the front of two lists, and the place after the last.
 fn read_rows(
     bytes: &[u8],
     from: usize,
@@ -153,31 +128,19 @@ fn read_rows(
     rows: usize,
     delays: &mut [u32],
     offsets: &mut [u32],
-) -> RowsRead
+) -> Result<usize, Fault>
     requires { (0 < period) × (rows ≤ length delays.old) × (rows ≤ length offsets.old) }
     ensures { rowsed result (take rows delays.new) (take rows offsets.new)
         ≡ rows_of bytes.now period rows [] [] from }
 {
     let mut at = from;
-    let mut j: usize = 0;
-    while j < rows {
-        match read_row(bytes, at, period) {
-            RowRead::Refused { number, place } => {
-                return RowsRead::Refused { number, place };
-            }
-            RowRead::Row {
-                delay,
-                offset,
-                next,
-            } => {
-                delays[j] = delay;
-                offsets[j] = offset;
-                at = next;
-                j += 1;
-            }
-        }
+    for j in 0..rows {
+        let row = read_row(bytes, at, period)?;
+        delays[j] = row.delay;
+        offsets[j] = row.offset;
+        at = row.next;
     }
-    RowsRead::End { next: at }
+    Ok(at)
 }
 
 // After the last number: 22 for bytes left over, 18, 11; then the rows are copied out.
@@ -189,68 +152,49 @@ fn close(
     os: &[u32],
     delays: &mut [u32],
     offsets: &mut [u32],
-) -> PlanRead
+) -> Result<Plan, Fault>
     ensures { Gives
         (closes bytes.now end link ds.now os.now delays.old offsets.old)
         result delays.new offsets.new }
 {
     if end < bytes.len() {
-        return PlanRead::Refused {
-            number: LEFT_OVER,
+        return Err(Fault {
+            refusal: Refusal::LeftOver,
             place: end,
-        };
+        });
     }
-    match checker::judge_clear(link, ds, os) {
-        Judged::Fault { number, place } => PlanRead::Refused { number, place },
-        Judged::Fine => {
-            if delays.len() < ds.len() {
-                return PlanRead::Refused {
-                    number: BAD_LENGTH,
-                    place: 0,
-                };
-            }
-            if offsets.len() < os.len() {
-                return PlanRead::Refused {
-                    number: BAD_LENGTH,
-                    place: 0,
-                };
-            }
-            ground::copy_out(ds, delays);
-            ground::copy_out(os, offsets);
-            PlanRead::Plan {
-                link,
-                rows: ds.len(),
-            }
-        }
+    checker::judge_clear(link, ds, os)?;
+    if delays.len() < ds.len() || offsets.len() < os.len() {
+        return Err(Fault {
+            refusal: Refusal::BadLength,
+            place: 0,
+        });
     }
+    ground::copy_out(ds, delays);
+    ground::copy_out(os, offsets);
+    Ok(Plan {
+        link,
+        rows: ds.len(),
+    })
 }
 
 // The rows from a place on, and the closing, after the header.
 pub fn read_rest(
     bytes: &[u8],
     at: usize,
-    head: Header,
+    head: Result<Header, Fault>,
     delays: &mut [u32],
     offsets: &mut [u32],
-) -> PlanRead
+) -> Result<Plan, Fault>
     requires { InRange head }
     ensures { Gives
         (rest_gives bytes.now at head delays.old offsets.old)
         result delays.new offsets.new }
 {
+    let header = head?;
     let mut ds = [0u32; MAX_ROWS];
     let mut os = [0u32; MAX_ROWS];
-    match head {
-        Header::Refused { number, place } => PlanRead::Refused { number, place },
-        Header::Read {
-            link,
-            rows,
-            next: _,
-        } => match read_rows(bytes, at, link.period, rows, &mut ds, &mut os) {
-            RowsRead::Refused { number, place } => PlanRead::Refused { number, place },
-            RowsRead::End { next: end } => {
-                close(bytes, end, link, &ds[..rows], &os[..rows], delays, offsets)
-            }
-        },
-    }
+    let rows = header.rows;
+    let end = read_rows(bytes, at, header.link.period, rows, &mut ds, &mut os)?;
+    close(bytes, end, header.link, &ds[..rows], &os[..rows], delays, offsets)
 }

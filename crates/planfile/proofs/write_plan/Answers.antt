@@ -1,9 +1,11 @@
 -- What the judgment refuses is the answer; else tag, header and rows are put one after the other, and copied where there is room.
-use mathlib.Core.Path.{sym, ◌∙◌}
+use mathlib.Core.Path.{◌≡◌, sym, ◌∙◌}
 use mathlib.Core.List.{List}
 use Prim.Native.Nat.{ℕ}
 use native.Mathlib.Omega.{arith}
 use lib.ListN.{length, replicate}
+use borrow.Author.Rules.{rules}
+use Rattle.std.specs.Prelude.{Err}
 use Rattle.ground.proofs.Adding.{on_front}
 use Rattle.checker.proofs.Judging.{fine_clear}
 use Rattle.planfile.specs.Answer.{written_said}
@@ -14,9 +16,15 @@ use Rattle.planfile.proofs.write_plan.Goals as goal
 abbrev blank : List ℕ
 blank = replicate 528 0
 
+pub returns-in_err-judge_clear : goal.returns-in_err-judge_clear
+unfolding written_said
+returns-in_err-judge_clear c =
+    let e : c.from_residual.result ≡ Err c.in_err-judge_clear.field-0.0 = search rules in
+    rw e (write_fault _ _ _ _ _ _ (sym c.in_err-judge_clear.ensures))
+
 pub put_header-at_rows-requires : goal.put_header-at_rows-requires
 put_header-at_rows-requires c =
-    let g = (fine_clear _ _ _ (sym c.in-Fine.ensures)).0 in (
+    let g = (fine_clear _ _ _ (sym c.in_ok-judge_clear.ensures)).0 in (
       omega arith,
       g.table.period_high,
       omega (arith, g.table.span_high, g.table.period_high),
@@ -24,7 +32,7 @@ put_header-at_rows-requires c =
     )
 
 pub put_rows-length-requires-clause-rows_fit : goal.put_rows-length-requires-clause-rows_fit
-put_rows-length-requires-clause-rows_fit c = rows_fit _ _ _ (fine_clear _ _ _ (sym c.in-Fine.ensures)).0
+put_rows-length-requires-clause-rows_fit c = rows_fit _ _ _ (fine_clear _ _ _ (sym c.in_ok-judge_clear.ensures)).0
 
 pub put_rows-length-requires-clause-rows_room_in_bounds :
     goal.put_rows-length-requires-clause-rows_room_in_bounds
@@ -34,19 +42,15 @@ put_rows-length-requires-clause-rows_room_in_bounds c =
 pub returns-then-buffer-length : goal.returns-then-buffer-length
 unfolding written_said
 returns-then-buffer-length c =
-    let put = plan_put _ _ _ blank _ _ _ _ _ (omega arith) c.copy_bytes.ensures c.put_header-at_rows.ensures
+    let put = plan_put _ _ _ blank _ _ _ _ _ (omega arith) c.copy_out.ensures c.put_header-at_rows.ensures
     c.put_rows-length.ensures in
-    write_short _ _ _ _ (sym c.in-Fine.ensures) (omega (arith, put.end))
+    write_short _ _ _ _ (sym c.in_ok-judge_clear.ensures) (omega (arith, put.end))
 
-pub returns-in-Fault : goal.returns-in-Fault
+pub returns : goal.returns
 unfolding written_said
-returns-in-Fault c = write_fault _ _ _ _ _ _ (sym c.in-Fault.ensures)
-
-pub returns-else-buffer-length : goal.returns-else-buffer-length
-unfolding written_said
-returns-else-buffer-length c =
-    let put = plan_put _ _ _ blank _ _ _ _ _ (omega arith) c.copy_bytes.ensures c.put_header-at_rows.ensures
+returns c =
+    let put = plan_put _ _ _ blank _ _ _ _ _ (omega arith) c.copy_out.ensures c.put_header-at_rows.ensures
     c.put_rows-length.ensures in
     let whole = on_front _ _ _ _ put in
-    stored_as _ _ (omega (arith, put.end)) (c.copy_bytes-in-Fine.ensures ∙ rw whole)
-    ∙ write_done _ _ _ _ (sym c.in-Fine.ensures) (omega (arith, put.end))
+    stored_as _ _ (omega (arith, put.end)) (c.copy_out-2.ensures ∙ rw whole)
+    ∙ write_done _ _ _ _ (sym c.in_ok-judge_clear.ensures) (omega (arith, put.end))

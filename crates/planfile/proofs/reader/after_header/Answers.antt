@@ -1,14 +1,13 @@
--- Each arm by what the enum is known to be.
+-- Each arm by what the answer is known to be.
 use mathlib.Core.Path.{sym, ap}
-use Rattle.planfile.specs.Answer.{headed}
-use Rattle.planfile.specs.declared.Header.{Header}
+use Rattle.planfile.specs.Answer.{HeaderRead, headed}
 use Rattle.planfile.specs.FileMeaning.{after}
 use Rattle.planfile.proofs.reader.after_header.Goals as goal
 
-pub returns-in-Refused : goal.returns-in-Refused
+pub returns-in-Ok : goal.returns-in-Ok
 unfolding headed
-returns-in-Refused c = sym (ap (λ (h : Header). after c.args.at (headed h)) c.in-Refused.is)
+returns-in-Ok c = sym (ap (λ (h : HeaderRead). after c.args.at (headed h)) c.in-Ok.is)
 
-pub returns-in-Read : goal.returns-in-Read
+pub returns-in-Err : goal.returns-in-Err
 unfolding headed
-returns-in-Read c = sym (ap (λ (h : Header). after c.args.at (headed h)) c.in-Read.is)
+returns-in-Err c = sym (ap (λ (h : HeaderRead). after c.args.at (headed h)) c.in-Err.is)

@@ -9,7 +9,7 @@ pub returns-then-not-begins : goal.returns-then-not-begins
 unfolding headed
 returns-then-not-begins c =
     let no_tag_read = sym c.begins.ensures ∙ c.if-not-begins.true in (
-      sym (rw c.tag_fault.ensures (no_tag _ _ no_tag_read)),
+      sym (rw c.tag_refusal.ensures (no_tag _ _ no_tag_read)),
       record { byte = λ i _. omega (arith, c.type_inv.bytes i) },
     )
 

@@ -1,29 +1,29 @@
 -- Three numbers, one after the other; a refusal is passed on.
-use mathlib.Core.Path.{sym, ap, ◌∙◌}
+use mathlib.Core.Path.{◌≡◌, sym}
+use borrow.Author.Rules.{rules}
+use Rattle.std.specs.Prelude.{Err}
 use Rattle.planfile.specs.FileMeaning.{header}
 use Rattle.planfile.specs.Answer.{taken, headed}
 use Rattle.planfile.proofs.reader.read_numbers.Goals as goal
 
-pub returns-in-Refused : goal.returns-in-Refused
+pub returns-in_err-period : goal.returns-in_err-period
 unfolding taken headed header
-returns-in-Refused c = rw (sym c.take_number.ensures ∙ ap taken c.in-Refused.is)
+returns-in_err-period c =
+    let e : c.from_residual.result ≡ Err c.in_err-period.field-0.0 = search rules in
+    rw (e, sym c.in_err-period.ensures)
 
-pub returns-in-Refused-take_number : goal.returns-in-Refused-take_number
+pub returns-in_err-size : goal.returns-in_err-size
 unfolding taken headed header
-returns-in-Refused-take_number c =
-    let period = sym c.take_number.ensures ∙ ap taken c.in-Value.is in
-    rw (period, sym c.take_number-in-Value.ensures ∙ ap taken c.in-Refused-take_number.is)
+returns-in_err-size c =
+    let e : c.from_residual-in_err-size.result ≡ Err c.in_err-size.field-0.0 = search rules in
+    rw (e, sym c.in_ok-period.ensures, sym c.in_err-size.ensures)
 
-pub returns-in-Refused-take_number-2 : goal.returns-in-Refused-take_number-2
+pub returns-in_err-rows : goal.returns-in_err-rows
 unfolding taken headed header
-returns-in-Refused-take_number-2 c =
-    let period = sym c.take_number.ensures ∙ ap taken c.in-Value.is in
-    let size = sym c.take_number-in-Value.ensures ∙ ap taken c.in-Value-take_number.is in
-    rw (period, size, sym c.take_number-in-Value-take_number.ensures ∙ ap taken c.in-Refused-take_number-2.is)
+returns-in_err-rows c =
+    let e : c.from_residual-in_err-rows.result ≡ Err c.in_err-rows.field-0.0 = search rules in
+    rw (e, sym c.in_ok-period.ensures, sym c.in_ok-size.ensures, sym c.in_err-rows.ensures)
 
-pub returns-in-Value-take_number-2 : goal.returns-in-Value-take_number-2
+pub returns : goal.returns
 unfolding taken headed header
-returns-in-Value-take_number-2 c =
-    let period = sym c.take_number.ensures ∙ ap taken c.in-Value.is in
-    let size = sym c.take_number-in-Value.ensures ∙ ap taken c.in-Value-take_number.is in
-    rw (period, size, sym c.take_number-in-Value-take_number.ensures ∙ ap taken c.in-Value-take_number-2.is)
+returns c = rw (sym c.in_ok-period.ensures, sym c.in_ok-size.ensures, sym c.in_ok-rows.ensures)

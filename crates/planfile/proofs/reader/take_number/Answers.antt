@@ -1,29 +1,33 @@
 -- The form is judged first, then the range.
-use mathlib.Core.Path.{sym}
+use mathlib.Core.Path.{◌≡◌, sym}
+use mathlib.Core.Logic.{⊎_elim}
 use native.Mathlib.Omega.{arith}
-use Rattle.planfile.specs.Answer.{taken}
+use borrow.Author.Rules.{rules}
+use Rattle.std.specs.Prelude.{Err}
+use Rattle.planfile.specs.Number.{number_said}
+use Rattle.planfile.specs.Answer.{taken_as}
+use Rattle.planfile.specs.declared.BadNumber.TheVariants.{Malformed}
 use Rattle.planfile.proofs.Steps.{number_form, number_low, number_high, number_in, number_ends}
 use Rattle.planfile.proofs.reader.take_number.Goals as goal
 
-pub returns-in_default : goal.returns-in_default
-unfolding taken
-returns-in_default c =
-    number_form _ _ _ _ _ c.number_at-got.result c.number_at-got.ensures c.in_default.not-Value _
-    c.form_fault.ensures
+pub returns-in_err-number : goal.returns-in_err-number
+unfolding number_said taken_as
+returns-in_err-number g c f =
+    let e : c.from_residual.result ≡ Err (Malformed c.in_err-number.field-0.0) = search rules in
+    rw e (number_form _ _ _ _ _ _ c.in_err-number.ensures)
 
-pub returns-then-value-low : goal.returns-then-value-low
-unfolding taken
-returns-then-value-low c = number_low _ _ _ _ _ _ _ (sym c.in-Value.ensures) c.if-value-low.true
-
-pub returns-then-value-high : goal.returns-then-value-high
-unfolding taken
-returns-then-value-high c = number_high _ _ _ _ _ _ _ (sym c.in-Value.ensures) c.if-value-high.true
+pub returns-then-number-low : goal.returns-then-number-low
+unfolding number_said taken_as
+returns-then-number-low g c f =
+    ⊎_elim (λ h. number_low _ _ _ _ _ _ _ (sym c.in_ok-number.ensures) h) (λ w. number_high _ _ _ _ _ _ _ (sym c.in_ok-number.ensures) w.1)
+    c.then-number-low.either
 
 pub overflow_add-result : goal.overflow_add-result
-overflow_add-result c =
-    let n = number_ends c.args.bytes.now c.args.at _ _ (sym c.in-Value.ensures) in
+unfolding number_said
+overflow_add-result g c =
+    let n = number_ends c.args.bytes.now c.args.at _ _ (sym c.in_ok-number.ensures) in
     omega (arith, n)
 
 pub returns : goal.returns
-unfolding taken
-returns c = number_in _ _ _ _ _ _ _ (sym c.in-Value.ensures) c.if-value-low.false c.if-value-high.false
+unfolding number_said taken_as
+returns g c f = number_in _ _ _ _ _ _ _ (sym c.in_ok-number.ensures) c.if-number-low.false c.if-number-high.false

@@ -1,7 +1,7 @@
 -- A file that is itself a front of the tag ends inside it.
 use mathlib.Core.Path.{sym, ◌∙◌}
 use Rattle.planfile.specs.FileMeaning.{tag_fault}
-use Rattle.planfile.proofs.reader.tag_fault.Goals as goal
+use Rattle.planfile.proofs.reader.tag_refusal.Goals as goal
 
 pub returns-then-begins : goal.returns-then-begins
 unfolding tag_fault
