@@ -1,8 +1,6 @@
 -- Laws that belong to no one function.
-pub mod Lengths
+pub mod Columns
+pub mod Judging
 pub mod NoLength
-pub mod Pairing
-pub mod Deciding
-pub mod Turns
 pub mod Promises
 pub mod Worked

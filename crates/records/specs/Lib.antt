@@ -1,3 +1,2 @@
 -- The definitions that the contracts of `records` cite.
 pub mod Columns
-pub mod Seen

@@ -2,182 +2,95 @@
 // answers on the list of their delays and the list of their offsets.
 #![tactic(auto)]
 
-ghost use Rattle.std.specs.Prelude.{◌≡◌, List, ◌+◌, ◌<◌, length};
-ghost use Rattle.ground.specs.Least.{one_more};
-ghost use Rattle.link.specs.Limits.{max_rows};
-ghost use Rattle.checker.specs.Answer.{said, answer};
+ghost use Rattle.std.specs.Prelude.{◌≡◌, position, nat_le, nat_lt};
+ghost use Rattle.ground.specs.Judging.{first};
+ghost use Rattle.ground.specs.Refusals.{judged};
+ghost use Rattle.link.specs.Limits.{max_delay};
+ghost use Rattle.link.specs.Range.{InRange};
+ghost use Rattle.link.specs.Refusal.{plan_faults};
+ghost use Rattle.checker.specs.Answer.{said, found, answer, named};
 ghost use Rattle.records.specs.Columns.{delays_of, offsets_of};
-ghost use Rattle.records.specs.Seen.{to_read, RowAt, Paired, Shows};
 
-use checker::Checked;
-use ground::Judged;
-use link::limits::{BAD_DELAY, BAD_OFFSET, BAD_ROWS, MAX_DELAY, MAX_ROWS};
-use link::{Link, Met};
+use checker::Collision;
+use ground::{Fault, Refusal};
+use link::limits::{MAX_DELAY, MAX_ROWS};
+use link::{Circle, Link, Start};
 
 #[repr(C)]
-#[derive(Clone, Copy)]
+#[derive(Clone, Copy, Debug, PartialEq, Eq)]
 pub struct Record {
     pub delay: u32,
     pub offset: u32,
 }
 
-// The pairs of rows so far: the starts of the rows, and whom the row `later`, the last one tested, meets.
-#[derive(Drop)]
-struct Pairs {
-    firsts: [u32; MAX_ROWS],
-    seconds: [u32; MAX_ROWS],
-    later: usize,
-    met: Met,
-}
-
-// What the records so far show: the least row with a delay and the least with an offset out of range, each as many as are read
-// where there is none, and the pairs.
-#[derive(Drop)]
-struct Seen {
-    overlong: usize,
-    beyond: usize,
-    pairs: Pairs,
-}
-
-// How many of n records are read: none of too many.
-fn to_read(n: usize) -> usize
-    ensures { result ≡ to_read n }
-{
-    if n <= MAX_ROWS {
-        return n;
-    }
-    0
-}
-
-// No record is read yet.
-fn nothing_seen() -> Seen
-    ensures { (k : Link) (rs : List Record) → Shows k rs 0 result }
-{
-    let pairs = Pairs {
-        firsts: [0; MAX_ROWS],
-        seconds: [0; MAX_ROWS],
-        later: 0,
-        met: Met::Nobody,
-    };
-    Seen {
-        overlong: 0,
-        beyond: 0,
-        pairs,
-    }
-}
-
-// The least bad row of n + 1 rows, or n + 1: from that of the first n, or n, and whether row n is bad.
-fn one_more(bad: bool, n: usize, least: usize) -> usize
-    requires { n < max_rows }
-    ensures { result ≡ one_more bad n least }
-{
-    if least < n {
-        return least;
-    }
-    if bad {
-        return n;
-    }
-    n + 1
-}
-
-// Row i is tested against the rows before it, unless two of those met already or it is out of range.
-fn paired(period: u32, span: u32, pairs: Pairs, i: usize, row: Record) -> Pairs
-    requires { i < max_rows }
-    ensures { (rs : List Record) → RowAt rs i row → Paired period span rs i pairs → Paired period span rs (i + 1) result }
-{
-    let before = pairs.met;
-    if let Met::Row { .. } = before {
-        return pairs;
-    }
-    if row.offset >= period {
-        return pairs;
-    }
-    let mut firsts = pairs.firsts;
-    let mut seconds = pairs.seconds;
-    let a = row.offset;
-    let b = link::second_start(period, row.delay, a);
-    let met = link::first_met(period, span, &firsts[..i], &seconds[..i], a, b);
-    firsts[i] = a;
-    seconds[i] = b;
-    Pairs {
-        firsts,
-        seconds,
-        later: i,
-        met,
-    }
-}
-
-// Record i is seen too.
-fn seen_with(link: Link, seen: Seen, i: usize, row: Record) -> Seen
-    requires { i < max_rows }
-    ensures { (rs : List Record) → RowAt rs i row → Shows link rs i seen → Shows link rs (i + 1) result }
-{
-    let overlong = one_more(row.delay > MAX_DELAY, i, seen.overlong);
-    let beyond = one_more(row.offset >= link.period, i, seen.beyond);
-    let before = seen.pairs;
-    let pairs = paired(link.period, link::span(link), before, i, row);
-    Seen {
-        overlong,
-        beyond,
-        pairs,
-    }
-}
-
-// The answer on n records: 5, 6, 8, 7, 17, then the collision, or clear.
-fn answer_of(link: Link, n: usize, seen: Seen) -> Checked
-    ensures { (rs : List Record) → length rs ≡ n → Shows link rs (to_read n) seen
-        → said result ≡ answer link (delays_of rs) (offsets_of rs) }
-{
-    if let Judged::Fault { number, place } = link::judge::link_values(link) {
-        return Checked::Refused { number, place };
-    }
-    if n == 0 {
-        return Checked::Refused {
-            number: BAD_ROWS,
-            place: 0,
-        };
-    }
-    if n > MAX_ROWS {
-        return Checked::Refused {
-            number: BAD_ROWS,
-            place: 0,
-        };
-    }
-    if seen.overlong < n {
-        return Checked::Refused {
-            number: BAD_DELAY,
-            place: seen.overlong,
-        };
-    }
-    if seen.beyond < n {
-        return Checked::Refused {
-            number: BAD_OFFSET,
-            place: seen.beyond,
-        };
-    }
-    let pairs = seen.pairs;
-    let met = pairs.met;
-    match met {
-        Met::Nobody => Checked::Clear,
-        Met::Row { row, crossing } => Checked::Collision {
-            earlier: row,
-            later: pairs.later,
-            crossing,
-        },
-    }
-}
-
 // Judges a table and its offsets, given as records, and names the first collision.
-pub fn check_records(link: Link, records: &[Record]) -> Checked
+pub fn check_records(link: Link, records: &[Record]) -> Result<Option<Collision>, Fault>
     ensures { said result ≡ answer link (delays_of records.now) (offsets_of records.now) }
 {
+    judge(link, records)?;
+    Ok(first_collision(link.circle(), records))
+}
+
+// The least row with a delay out of range.
+fn overlong(records: &[Record]) -> Option<usize>
+    ensures { result ≡ position (λ (r : Record). nat_lt max_delay r.delay) records.now }
+{
+    records.iter().position(|record| record.delay > MAX_DELAY)
+}
+
+// The least row with an offset out of range.
+fn beyond(records: &[Record], period: u32) -> Option<usize>
+    ensures { result ≡ position (λ (r : Record). nat_le period r.offset) records.now }
+{
+    records.iter().position(|record| record.offset >= period)
+}
+
+// 5, 6, 8, 7, 17: all delays before any offset. 11 cannot arise, for a record has one of each.
+fn judge(link: Link, records: &[Record]) -> Result<(), Fault>
+    ensures { judged result ≡ first (plan_faults link (delays_of records.now) (offsets_of records.now)) }
+{
+    link::judge::link_values(link)?;
     let n = records.len();
-    let rows = to_read(n);
-    let mut seen = nothing_seen();
-    let mut i: usize = 0;
-    while i < rows {
-        seen = seen_with(link, seen, i, records[i]);
-        i += 1;
+    if n == 0 || n > MAX_ROWS {
+        return Err(Fault {
+            refusal: Refusal::BadRows,
+            place: 0,
+        });
     }
-    answer_of(link, n, seen)
+    if let Some(place) = overlong(records) {
+        return Err(Fault {
+            refusal: Refusal::BadDelay,
+            place,
+        });
+    }
+    if let Some(place) = beyond(records, link.period) {
+        return Err(Fault {
+            refusal: Refusal::BadOffset,
+            place,
+        });
+    }
+    Ok(())
+}
+
+// The collision of the least later row; starts are kept, so that each is worked out once.
+fn first_collision(circle: Circle, records: &[Record]) -> Option<Collision>
+    requires { InRange circle.period circle.span (delays_of records.now) (offsets_of records.now) }
+    ensures { found result ≡ named circle.period circle.span (delays_of records.now) (offsets_of records.now) }
+{
+    let mut starts = [Start {
+        first: 0,
+        second: 0,
+    }; MAX_ROWS];
+    for (later, record) in records.iter().enumerate() {
+        let start = circle.start(record.delay, record.offset);
+        if let Some(met) = circle.first_met(&starts[..later], start) {
+            return Some(Collision {
+                earlier: met.row,
+                later,
+                crossing: met.crossing,
+            });
+        }
+        starts[later] = start;
+    }
+    None
 }

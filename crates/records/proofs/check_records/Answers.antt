@@ -1,14 +1,22 @@
--- A turn hands the record that it reads to `seen_with`.
-use Rattle.std.proofs.Common.{arith}
-use Rattle.records.proofs.Turns.{row_at}
+-- A fault of the judging is the answer; else the values are in range, and the walk names the collision.
+use Rattle.std.specs.Prelude.{◌≡◌, Err}
+use mathlib.Core.Path.{sym}
+use borrow.Author.Rules.{rules}
+use Rattle.link.proofs.Accepted.{good_plan, in_range}
+use Rattle.checker.specs.Answer.{said, answer}
 use Rattle.records.proofs.check_records.Goals as goal
 
-pub loop-i-init : goal.loop-i-init
-loop-i-init c = record { low = omega arith; shows = c.nothing_seen-seen.ensures _ _ }
+pub returns-in_err-judge : goal.returns-in_err-judge
+unfolding said answer
+returns-in_err-judge c =
+    let e : c.from_residual.result ≡ Err c.in_err-judge.field-0.0 = search rules in
+    rw (e, sym c.in_err-judge.ensures)
 
-pub loop-i-preserved : goal.loop-i-preserved
-loop-i-preserved c =
-    record {
-      low = omega arith;
-      shows = c.seen_with-seen.ensures _ (row_at _ _ (grind arith)) c.loop-i.invariant.shows;
-    }
+pub first_collision-requires : goal.first_collision-requires
+first_collision-requires c =
+    rw (c.circle.ensures.0, c.circle.ensures.1) (in_range _ _ _ (good_plan _ _ _ (sym c.in_ok-judge.ensures)))
+
+pub returns : goal.returns
+unfolding said answer
+returns c =
+    rw (sym c.in_ok-judge.ensures) (rw (c.circle.ensures.0, c.circle.ensures.1) at c.first_collision.ensures)
