@@ -1,32 +1,31 @@
 // Reading a case: decimal numbers with a space between them, and lists as their length and elements.
 ghost use Rattle.std.specs.Prelude.{◌≤◌, length};
-ghost use Rattle.replay.specs.Counts.{IsPrefixLen};
 
 use std::slice::Iter;
 
 // 2 ^ 64 / 10, rounded up: ten times a number below it fits 64 bits.
 const TENTH: u64 = u64::MAX / 10 + 1;
 
-// A number as a case gives it, in its own width.
+// A number that a case gives, or a call answers with, in its width.
 pub(crate) trait Number: Copy + Into<u64> {
     // What is past the width is lost.
-    fn of(value: u64) -> Self;
+    fn truncate(value: u64) -> Self;
 }
 
 impl Number for u8 {
-    fn of(value: u64) -> u8 {
+    fn truncate(value: u64) -> u8 {
         (value & 0xff) as u8
     }
 }
 
 impl Number for u32 {
-    fn of(value: u64) -> u32 {
+    fn truncate(value: u64) -> u32 {
         (value & 0xffff_ffff) as u32
     }
 }
 
 impl Number for u64 {
-    fn of(value: u64) -> u64 {
+    fn truncate(value: u64) -> u64 {
         value
     }
 }
@@ -51,7 +50,7 @@ impl<'a> Case<'a> {
             }
             value = (value % TENTH * 10).wrapping_add(u64::from(*b - b'0'));
         }
-        T::of(value)
+        T::truncate(value)
     }
 
     // A list of numbers, as many as there is room for.
@@ -107,18 +106,19 @@ pub(crate) struct Lent {
 }
 
 impl Lent {
-    pub(crate) fn element(&self, i: usize) -> u64 {
+    // The element at index i as it was lent.
+    pub(crate) fn element(self, i: usize) -> u64 {
         self.first.wrapping_add(i as u64)
     }
 
     // The list, as many elements as there is room for.
-    pub(crate) fn fill<'b, T: Number>(&self, room: &'b mut [T]) -> &'b mut [T]
+    pub(crate) fn fill<'b, T: Number>(self, room: &'b mut [T]) -> &'b mut [T]
         ensures { length result.now ≤ length room.old }
     {
         let count = at_most(self.count, room.len());
         let list = &mut room[..count];
         for (i, x) in list.iter_mut().enumerate() {
-            *x = T::of(self.element(i));
+            *x = T::truncate(self.element(i));
         }
         list
     }

@@ -18,7 +18,7 @@ pub(crate) enum Kind {
 
 // A number that names no kind.
 #[derive(Clone, Copy, Debug, PartialEq, Eq)]
-pub(crate) struct UnknownKind(u64);
+pub(crate) struct UnknownKind;
 
 impl TryFrom<u64> for Kind {
     type Error = UnknownKind;
@@ -37,7 +37,7 @@ impl TryFrom<u64> for Kind {
             11 => Ok(Kind::Input),
             12 => Ok(Kind::PlanTexts),
             13 => Ok(Kind::OneSlot),
-            _ => Err(UnknownKind(number)),
+            _ => Err(UnknownKind),
         }
     }
 }

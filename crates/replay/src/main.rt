@@ -6,7 +6,6 @@ mod kind;
 mod show;
 
 ghost use Rattle.std.specs.Prelude.{◌≤◌, length};
-ghost use Rattle.replay.specs.Counts.{IsPrefixLen};
 
 use cases::Case;
 use kind::Kind;
@@ -18,10 +17,12 @@ const LARGE_BUFFER: usize = 65536;
 // 4 megabytes of cases.
 const MOST_BLOCKS: usize = 64;
 
-// The rooms for a list of rows, for a text or a file, and for the offsets of joined texts.
-const ROWS: usize = 132;
-const BYTES: usize = 1100;
-const OFFSETS: usize = 2100;
+// The room for a list of rows, for a text or a file, and for the offsets of joined texts: more than the library takes.
+const ROW_ROOM: usize = 132;
+
+const BYTE_ROOM: usize = 1100;
+
+const OFFSET_ROOM: usize = 2100;
 
 fn main(rt: HostRuntime) {
     let mut space = [0; LARGE_BUFFER];
@@ -42,9 +43,10 @@ fn block(rt: &(impl Input + Print), space: &mut [u8], held: usize) -> usize
     end - rest
 }
 
-// Reads until the buffer is full, the input ends or a read fails, and answers how many bytes there are.
+// Reads until the buffer is full, the input ends or a read fails, and answers how many bytes there are. The program `exact` has
+// one of its own, since a failed read ends it, and here what came before counts.
 fn read_full(input: &mut impl Read, buf: &mut [u8]) -> usize
-    ensures { IsPrefixLen result buf.new }
+    ensures { result ≤ length buf.new }
 {
     let mut done = 0;
     while let Ok(n @ 1..) = input.read(&mut buf[done..]) {
@@ -61,21 +63,21 @@ fn run(rt: &impl Print, text: &[u8]) -> usize
         return 0;
     };
     for line in text[..last].split(|b| *b == b'\n') {
-        case(rt, Case::new(line));
+        answer(rt, Case::new(line));
     }
     last + 1
 }
 
-// The line of a case of no kind is empty.
-fn case(rt: &impl Print, mut case: Case<'_>) {
+// Answers a case on a line, which is empty for a case of no kind.
+fn answer(rt: &impl Print, mut case: Case<'_>) {
     let number: u64 = case.number();
     if let Ok(kind) = Kind::try_from(number) {
-        answer(rt, kind, case);
+        answer_kind(rt, kind, case);
     }
     show::end(rt);
 }
 
-fn answer(rt: &impl Print, kind: Kind, case: Case<'_>) {
+fn answer_kind(rt: &impl Print, kind: Kind, case: Case<'_>) {
     match kind {
         Kind::Check => table_and_offsets(rt, case, [0; 5], seamwhisk::seamwhisk_check),
         Kind::Report => table_and_offsets(rt, case, [0; 8], seamwhisk::seamwhisk_report),
@@ -101,9 +103,9 @@ where
 {
     let period = case.number();
     let size = case.number();
-    let mut delays = [0; ROWS];
+    let mut delays = [0; ROW_ROOM];
     let delays = case.list(&mut delays);
-    let mut offsets = [0; ROWS];
+    let mut offsets = [0; ROW_ROOM];
     let offsets = case.list(&mut offsets);
     call(period, size, delays, offsets, &mut answer);
     show::answer(rt, answer.as_slice());
@@ -117,9 +119,9 @@ where
 {
     let period = case.number();
     let size = case.number();
-    let mut delays = [0; ROWS];
+    let mut delays = [0; ROW_ROOM];
     let delays = case.list(&mut delays);
-    let mut offsets = [0; ROWS];
+    let mut offsets = [0; ROW_ROOM];
     let offsets = case.lent().fill(&mut offsets);
     let mut answer = [0; 2];
     call(period, size, delays, offsets, &mut answer);
@@ -132,9 +134,9 @@ fn table_and_budget(rt: &impl Print, mut case: Case<'_>) {
     let period = case.number();
     let size = case.number();
     let budget = case.number();
-    let mut delays = [0; ROWS];
+    let mut delays = [0; ROW_ROOM];
     let delays = case.list(&mut delays);
-    let mut offsets = [0; ROWS];
+    let mut offsets = [0; ROW_ROOM];
     let offsets = case.lent().fill(&mut offsets);
     let mut answer = [0; 3];
     seamwhisk::seamwhisk_exact(period, size, delays, budget, offsets, &mut answer);
@@ -149,9 +151,9 @@ fn ceiling(rt: &impl Print, mut case: Case<'_>) {
 
 // A text and a lent list for its delays.
 fn text_and_room(rt: &impl Print, mut case: Case<'_>) {
-    let mut text = [0; BYTES];
+    let mut text = [0; BYTE_ROOM];
     let text = case.list(&mut text);
-    let mut delays = [0; ROWS];
+    let mut delays = [0; ROW_ROOM];
     let delays = case.lent().fill(&mut delays);
     let mut answer = [0; 5];
     seamwhisk::seamwhisk_read_table(text, delays, &mut answer);
@@ -161,7 +163,7 @@ fn text_and_room(rt: &impl Print, mut case: Case<'_>) {
 
 // The input of the program `exact`.
 fn input(rt: &impl Print, mut case: Case<'_>) {
-    let mut given = [0; BYTES];
+    let mut given = [0; BYTE_ROOM];
     let given = case.list(&mut given);
     let mut out = [0; console::MOST];
     let count = console::run(given, &mut out);
@@ -173,11 +175,11 @@ fn input(rt: &impl Print, mut case: Case<'_>) {
 fn plan_and_room(rt: &impl Print, mut case: Case<'_>) {
     let period = case.number();
     let size = case.number();
-    let mut delays = [0; ROWS];
+    let mut delays = [0; ROW_ROOM];
     let delays = case.list(&mut delays);
-    let mut offsets = [0; ROWS];
+    let mut offsets = [0; ROW_ROOM];
     let offsets = case.list(&mut offsets);
-    let mut file = [0; BYTES];
+    let mut file = [0; BYTE_ROOM];
     let file = case.lent().fill(&mut file);
     let mut answer = [0; 3];
     seamwhisk::seamwhisk_write_plan(period, size, delays, offsets, file, &mut answer);
@@ -187,11 +189,11 @@ fn plan_and_room(rt: &impl Print, mut case: Case<'_>) {
 
 // A plan file and two lent lists, for its delays and its offsets.
 fn file_and_rooms(rt: &impl Print, mut case: Case<'_>) {
-    let mut file = [0; BYTES];
+    let mut file = [0; BYTE_ROOM];
     let file = case.list(&mut file);
-    let mut delays = [0; ROWS];
+    let mut delays = [0; ROW_ROOM];
     let delays = case.lent().fill(&mut delays);
-    let mut offsets = [0; ROWS];
+    let mut offsets = [0; ROW_ROOM];
     let offsets = case.lent().fill(&mut offsets);
     let mut answer = [0; 5];
     seamwhisk::seamwhisk_read_plan(file, delays, offsets, &mut answer);
@@ -206,10 +208,10 @@ fn texts_and_rooms(rt: &impl Print, mut case: Case<'_>) {
     let mut texts = [0; LARGE_BUFFER];
     let texts = case.parts(&mut texts);
     let lent_answers = case.lent();
-    let mut answers = [0; ROWS];
+    let mut answers = [0; ROW_ROOM];
     let answers = lent_answers.fill(&mut answers);
     let lent_offsets = case.lent();
-    let mut offsets = [0; OFFSETS];
+    let mut offsets = [0; OFFSET_ROOM];
     let offsets = lent_offsets.fill(&mut offsets);
     let mut answer = [0; 3];
     seamwhisk::seamwhisk_plan_texts_flat(texts, budget, answers, offsets, &mut answer);

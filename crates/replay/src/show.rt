@@ -21,18 +21,11 @@ pub(crate) fn list<T: Number>(rt: &impl Print, xs: &[T]) {
 
 // What has changed in a lent list: how many elements, and of each its index and itself.
 pub(crate) fn changes<T: Number>(rt: &impl Print, xs: &[T], lent: Lent) {
-    let count = xs
-        .iter()
-        .enumerate()
-        .filter(|(i, x)| (**x).into() != lent.element(*i))
-        .count();
-    next(rt, count as u64);
-    for (i, x) in xs.iter().enumerate() {
-        let x = (*x).into();
-        if x != lent.element(i) {
-            next(rt, i as u64);
-            next(rt, x);
-        }
+    let has_changed = |(i, x): &(usize, &T)| (**x).into() != lent.element(*i);
+    next(rt, xs.iter().enumerate().filter(has_changed).count() as u64);
+    for (i, x) in xs.iter().enumerate().filter(has_changed) {
+        next(rt, i as u64);
+        next(rt, (*x).into());
     }
 }
 
