@@ -2,11 +2,14 @@
 #![tactic(auto)]
 
 mod cases;
+mod kind;
 mod show;
 
 ghost use Rattle.std.specs.Prelude.{◌≤◌, length};
-ghost use Rattle.replay.specs.Counts.{IsPrefixLen};
 
+use cases::Case;
+use kind::Kind;
+use std::convert::AsSlice;
 use std::io::{Input, Read};
 
 const LARGE_BUFFER: usize = 65536;
@@ -14,346 +17,205 @@ const LARGE_BUFFER: usize = 65536;
 // 4 megabytes of cases.
 const MOST_BLOCKS: usize = 64;
 
+// The room for a list of rows, for a text or a file, and for the offsets of joined texts: more than the library takes.
+const ROW_ROOM: usize = 132;
+
+const BYTE_ROOM: usize = 1100;
+
+const OFFSET_ROOM: usize = 2100;
+
 fn main(rt: HostRuntime) {
-    let mut space = [0u8; LARGE_BUFFER];
-    let mut held: usize = 0;
-    let mut turn: usize = 0;
-    while turn < MOST_BLOCKS {
+    let mut space = [0; LARGE_BUFFER];
+    let mut held = 0;
+    for _ in 0..MOST_BLOCKS {
         held = block(&rt, &mut space, held);
-        turn += 1;
     }
 }
 
-// Fills the room behind the bytes that are held, runs the whole lines, and moves what is left to the front.
+// Reads on behind the bytes that are held, runs the whole lines, and moves what is left to the front; how many bytes that is.
 fn block(rt: &(impl Input + Print), space: &mut [u8], held: usize) -> usize
     requires { held ≤ length space.old }
     ensures { result ≤ length space.old }
 {
-    let end = refill(rt, space, held);
+    let end = held + read_full(&mut rt.reader(), &mut space[held..]);
     let rest = run(rt, &space[..end]);
-    shift(space, rest, end);
+    space.copy_within(rest..end, 0);
     end - rest
 }
 
-// Reads on behind the bytes that are held, and answers how many there are now.
-fn refill(rt: &impl Input, space: &mut [u8], held: usize) -> usize
-    requires { held ≤ length space.old }
-    ensures { IsPrefixLen result space.new }
-{
-    held + read_full(&mut rt.reader(), &mut space[held..])
-}
-
-// Reads until the buffer is full, the input ends or a read fails, and answers how many bytes there are.
+// Reads until the buffer is full, the input ends or a read fails, and answers how many bytes there are. The program `exact` has
+// one of its own, since a failed read ends it, and here what came before counts.
 fn read_full(input: &mut impl Read, buf: &mut [u8]) -> usize
-    ensures { IsPrefixLen result buf.new }
+    ensures { result ≤ length buf.new }
 {
     let mut done = 0;
-    while done < buf.len() {
-        match input.read(&mut buf[done..]) {
-            Ok(0) | Err(_) => break,
-            Ok(n) => done += n,
-        }
+    while let Ok(n @ 1..) = input.read(&mut buf[done..]) {
+        done += n;
     }
     done
-}
-
-// Moves the bytes from `from` to `end` to the front.
-fn shift(space: &mut [u8], from: usize, end: usize)
-    requires { (from ≤ end) × (end ≤ length space.old) }
-{
-    let mut i = from;
-    while i < end {
-        space[i - from] = space[i];
-        i += 1;
-    }
 }
 
 // Runs each whole line, and answers where the unfinished one begins.
 fn run(rt: &impl Print, text: &[u8]) -> usize
     ensures { result ≤ length text.now }
 {
-    let mut at: usize = 0;
-    loop {
-        let end = line_end(text, at);
-        if end == text.len() {
-            return at;
-        }
-        case(rt, &text[at..end]);
-        at = end + 1;
+    let Some(last) = text.iter().rposition(|b| *b == b'\n') else {
+        return 0;
+    };
+    for line in text[..last].split(|b| *b == b'\n') {
+        answer(rt, Case::new(line));
     }
+    last + 1
 }
 
-// Where the line that begins at `at` ends.
-fn line_end(text: &[u8], at: usize) -> usize
-    requires { at ≤ length text.now }
-    ensures { (at ≤ result) × (result ≤ length text.now) }
-{
-    let mut i = at;
-    while i < text.len() {
-        if text[i] == 10 {
-            return i;
-        }
-        i += 1;
-    }
-    i
-}
-
-fn case(rt: &impl Print, line: &[u8]) {
-    let kind = cases::number(line, 0);
-    let at = kind.next;
-    let k = kind.value;
-    match k {
-        1 | 8 => table_and_offsets(rt, line, at, k),
-        2 | 3 | 13 => table_and_room(rt, line, at, k),
-        4 => table_and_budget(rt, line, at),
-        5 => text_and_room(rt, line, at),
-        6 => plan_and_room(rt, line, at),
-        7 => file_and_rooms(rt, line, at),
-        9 => ceiling(rt, line, at),
-        11 => input(rt, line, at),
-        12 => texts_and_rooms(rt, line, at),
-        _ => {}
+// Answers a case on a line, which is empty for a case of no kind.
+fn answer(rt: &impl Print, mut case: Case<'_>) {
+    let number: u64 = case.number();
+    if let Ok(kind) = Kind::try_from(number) {
+        answer_kind(rt, kind, case);
     }
     show::end(rt);
 }
 
-// A table and its offsets: checked, or reported.
-fn table_and_offsets(rt: &impl Print, line: &[u8], at: usize, kind: u64) {
-    let period = cases::number(line, at);
-    let size = cases::number(line, period.next);
-    let mut ds = [0u32; 132];
-    let delays = cases::list(line, size.next, &mut ds);
-    let mut os = [0u32; 132];
-    let offsets = cases::list(line, delays.next, &mut os);
-    let n = delays.count;
-    let m = offsets.count;
-    let p = cases::word(period);
-    let t = cases::word(size);
-    if kind == 1 {
-        check(rt, p, t, &ds[..n], &os[..m]);
-    } else {
-        report(rt, p, t, &ds[..n], &os[..m]);
+fn answer_kind(rt: &impl Print, kind: Kind, case: Case<'_>) {
+    match kind {
+        Kind::Check => table_and_offsets(rt, case, [0; 5], seamwhisk::seamwhisk_check),
+        Kind::Report => table_and_offsets(rt, case, [0; 8], seamwhisk::seamwhisk_report),
+        Kind::FirstFit => table_and_room(rt, case, seamwhisk::seamwhisk_first_fit),
+        Kind::MetaOffset => table_and_room(rt, case, seamwhisk::seamwhisk_meta_offset),
+        Kind::OneSlot => table_and_room(rt, case, seamwhisk::seamwhisk_one_slot),
+        Kind::Exact => table_and_budget(rt, case),
+        Kind::ReadTable => text_and_room(rt, case),
+        Kind::WritePlan => plan_and_room(rt, case),
+        Kind::ReadPlan => file_and_rooms(rt, case),
+        Kind::Ceiling => ceiling(rt, case),
+        Kind::Input => input(rt, case),
+        Kind::PlanTexts => texts_and_rooms(rt, case),
     }
 }
 
-fn check(rt: &impl Print, period: u32, size: u32, delays: &[u32], offsets: &[u32]) {
-    let mut answer = [0u64; 5];
-    seamwhisk::seamwhisk_check(period, size, delays, offsets, &mut answer);
-    show::five(rt, &answer);
-}
-
-fn report(rt: &impl Print, period: u32, size: u32, delays: &[u32], offsets: &[u32]) {
-    let mut answer = [0u64; 8];
-    seamwhisk::seamwhisk_report(period, size, delays, offsets, &mut answer);
-    show::eight(rt, &answer);
+// A table and its offsets: checked, or reported.
+fn table_and_offsets<A, F>(rt: &impl Print, mut case: Case<'_>, mut answer: A, call: F)
+where
+    A: AsSlice<u64> + Drop,
+    F: Fn(u32, u32, &[u32], &[u32], &mut A) + Drop,
+    requires { F.IsAlwaysCallable call }
+{
+    let period = case.number();
+    let size = case.number();
+    let mut delays = [0; ROW_ROOM];
+    let delays = case.list(&mut delays);
+    let mut offsets = [0; ROW_ROOM];
+    let offsets = case.list(&mut offsets);
+    call(period, size, delays, offsets, &mut answer);
+    show::answer(rt, answer.as_slice());
 }
 
 // A table and a lent list for its offsets.
-fn table_and_room(rt: &impl Print, line: &[u8], at: usize, kind: u64) {
-    let period = cases::number(line, at);
-    let size = cases::number(line, period.next);
-    let mut ds = [0u32; 132];
-    let delays = cases::list(line, size.next, &mut ds);
-    let mut os = [0u32; 132];
-    let offsets = cases::lent(line, delays.next, &mut os);
-    let n = delays.count;
-    let m = offsets.count;
-    let p = cases::word(period);
-    let t = cases::word(size);
-    match kind {
-        2 => first_fit(rt, p, t, &ds[..n], &mut os[..m]),
-        3 => meta_offset(rt, p, t, &ds[..n], &mut os[..m]),
-        _ => one_slot(rt, p, t, &ds[..n], &mut os[..m]),
-    }
-}
-
-fn first_fit(rt: &impl Print, period: u32, size: u32, delays: &[u32], offsets: &mut [u32]) {
-    let mut answer = [0u64; 2];
-    seamwhisk::seamwhisk_first_fit(period, size, delays, offsets, &mut answer);
-    show::two(rt, &answer);
-    show::list(rt, offsets);
-}
-
-fn meta_offset(rt: &impl Print, period: u32, size: u32, delays: &[u32], offsets: &mut [u32]) {
-    let mut answer = [0u64; 2];
-    seamwhisk::seamwhisk_meta_offset(period, size, delays, offsets, &mut answer);
-    show::two(rt, &answer);
-    show::list(rt, offsets);
-}
-
-fn one_slot(rt: &impl Print, period: u32, size: u32, delays: &[u32], offsets: &mut [u32]) {
-    let mut answer = [0u64; 2];
-    seamwhisk::seamwhisk_one_slot(period, size, delays, offsets, &mut answer);
-    show::two(rt, &answer);
+fn table_and_room<F>(rt: &impl Print, mut case: Case<'_>, call: F)
+where
+    F: Fn(u32, u32, &[u32], &mut [u32], &mut [u64; 2]) + Drop,
+    requires { F.IsAlwaysCallable call }
+{
+    let period = case.number();
+    let size = case.number();
+    let mut delays = [0; ROW_ROOM];
+    let delays = case.list(&mut delays);
+    let mut offsets = [0; ROW_ROOM];
+    let offsets = case.lent().fill(&mut offsets);
+    let mut answer = [0; 2];
+    call(period, size, delays, offsets, &mut answer);
+    show::answer(rt, &answer);
     show::list(rt, offsets);
 }
 
 // A table, a budget and a lent list for its offsets.
-fn table_and_budget(rt: &impl Print, line: &[u8], at: usize) {
-    let period = cases::number(line, at);
-    let size = cases::number(line, period.next);
-    let budget = cases::number(line, size.next);
-    let mut ds = [0u32; 132];
-    let delays = cases::list(line, budget.next, &mut ds);
-    let mut os = [0u32; 132];
-    let offsets = cases::lent(line, delays.next, &mut os);
-    let n = delays.count;
-    let m = offsets.count;
-    exact(
-        rt,
-        cases::word(period),
-        cases::word(size),
-        &ds[..n],
-        budget.value,
-        &mut os[..m],
-    );
-}
-
-fn exact(
-    rt: &impl Print,
-    period: u32,
-    size: u32,
-    delays: &[u32],
-    budget: u64,
-    offsets: &mut [u32],
-) {
-    let mut answer = [0u64; 3];
+fn table_and_budget(rt: &impl Print, mut case: Case<'_>) {
+    let period = case.number();
+    let size = case.number();
+    let budget = case.number();
+    let mut delays = [0; ROW_ROOM];
+    let delays = case.list(&mut delays);
+    let mut offsets = [0; ROW_ROOM];
+    let offsets = case.lent().fill(&mut offsets);
+    let mut answer = [0; 3];
     seamwhisk::seamwhisk_exact(period, size, delays, budget, offsets, &mut answer);
-    show::three(rt, &answer);
+    show::answer(rt, &answer);
     show::list(rt, offsets);
 }
 
-fn ceiling(rt: &impl Print, line: &[u8], at: usize) {
-    let n = cases::number(line, at);
-    show::one(rt, seamwhisk::seamwhisk_ceiling(n.value as usize));
+fn ceiling(rt: &impl Print, mut case: Case<'_>) {
+    let rows: u64 = case.number();
+    show::answer(rt, &[seamwhisk::seamwhisk_ceiling(rows as usize)]);
 }
 
 // A text and a lent list for its delays.
-fn text_and_room(rt: &impl Print, line: &[u8], at: usize) {
-    let mut bytes = [0u8; 1100];
-    let text = cases::bytes(line, at, &mut bytes);
-    let mut ds = [0u32; 132];
-    let delays = cases::lent(line, text.next, &mut ds);
-    let n = text.count;
-    let m = delays.count;
-    read_table(rt, &bytes[..n], &mut ds[..m]);
-}
-
-fn read_table(rt: &impl Print, text: &[u8], delays: &mut [u32]) {
-    let mut answer = [0u64; 5];
+fn text_and_room(rt: &impl Print, mut case: Case<'_>) {
+    let mut text = [0; BYTE_ROOM];
+    let text = case.list(&mut text);
+    let mut delays = [0; ROW_ROOM];
+    let delays = case.lent().fill(&mut delays);
+    let mut answer = [0; 5];
     seamwhisk::seamwhisk_read_table(text, delays, &mut answer);
-    show::five(rt, &answer);
+    show::answer(rt, &answer);
     show::list(rt, delays);
 }
 
 // The input of the program `exact`.
-fn input(rt: &impl Print, line: &[u8], at: usize) {
-    let mut bytes = [0u8; 1100];
-    let given = cases::bytes(line, at, &mut bytes);
-    let n = given.count;
-    let mut out = [0u8; console::MOST];
-    let k = console::run(&bytes[..n], &mut out);
-    show::one(rt, k as u64);
-    show::bytes(rt, &out[..k]);
+fn input(rt: &impl Print, mut case: Case<'_>) {
+    let mut given = [0; BYTE_ROOM];
+    let given = case.list(&mut given);
+    let mut out = [0; console::MOST];
+    let count = console::run(given, &mut out);
+    show::answer(rt, &[count as u64]);
+    show::list(rt, &out[..count]);
 }
 
 // A plan and a lent buffer for its file.
-fn plan_and_room(rt: &impl Print, line: &[u8], at: usize) {
-    let period = cases::number(line, at);
-    let size = cases::number(line, period.next);
-    let mut ds = [0u32; 132];
-    let delays = cases::list(line, size.next, &mut ds);
-    let mut os = [0u32; 132];
-    let offsets = cases::list(line, delays.next, &mut os);
-    let mut bytes = [0u8; 1100];
-    let file = cases::lent_bytes(line, offsets.next, &mut bytes);
-    let n = delays.count;
-    let m = offsets.count;
-    let k = file.count;
-    write_plan(
-        rt,
-        cases::word(period),
-        cases::word(size),
-        &ds[..n],
-        &os[..m],
-        &mut bytes[..k],
-    );
-}
-
-fn write_plan(
-    rt: &impl Print,
-    period: u32,
-    size: u32,
-    delays: &[u32],
-    offsets: &[u32],
-    file: &mut [u8],
-) {
-    let mut answer = [0u64; 3];
+fn plan_and_room(rt: &impl Print, mut case: Case<'_>) {
+    let period = case.number();
+    let size = case.number();
+    let mut delays = [0; ROW_ROOM];
+    let delays = case.list(&mut delays);
+    let mut offsets = [0; ROW_ROOM];
+    let offsets = case.list(&mut offsets);
+    let mut file = [0; BYTE_ROOM];
+    let file = case.lent().fill(&mut file);
+    let mut answer = [0; 3];
     seamwhisk::seamwhisk_write_plan(period, size, delays, offsets, file, &mut answer);
-    show::three(rt, &answer);
-    show::bytes(rt, file);
+    show::answer(rt, &answer);
+    show::list(rt, file);
 }
 
 // A plan file and two lent lists, for its delays and its offsets.
-fn file_and_rooms(rt: &impl Print, line: &[u8], at: usize) {
-    let mut bytes = [0u8; 1100];
-    let file = cases::bytes(line, at, &mut bytes);
-    let mut ds = [0u32; 132];
-    let delays = cases::lent(line, file.next, &mut ds);
-    let mut os = [0u32; 132];
-    let offsets = cases::lent(line, delays.next, &mut os);
-    let n = file.count;
-    let m = delays.count;
-    let k = offsets.count;
-    read_plan(rt, &bytes[..n], &mut ds[..m], &mut os[..k]);
-}
-
-fn read_plan(rt: &impl Print, file: &[u8], delays: &mut [u32], offsets: &mut [u32]) {
-    let mut answer = [0u64; 5];
+fn file_and_rooms(rt: &impl Print, mut case: Case<'_>) {
+    let mut file = [0; BYTE_ROOM];
+    let file = case.list(&mut file);
+    let mut delays = [0; ROW_ROOM];
+    let delays = case.lent().fill(&mut delays);
+    let mut offsets = [0; ROW_ROOM];
+    let offsets = case.lent().fill(&mut offsets);
+    let mut answer = [0; 5];
     seamwhisk::seamwhisk_read_plan(file, delays, offsets, &mut answer);
-    show::five(rt, &answer);
+    show::answer(rt, &answer);
     show::list(rt, delays);
     show::list(rt, offsets);
 }
 
-// A budget, joined texts and two lent lists, for their answers and their offsets.
-fn texts_and_rooms(rt: &impl Print, line: &[u8], at: usize) {
-    let budget = cases::number(line, at);
-    let mut bytes = [0u8; LARGE_BUFFER];
-    let texts = cases::parts(line, budget.next, &mut bytes);
-    let mut xs = [0u64; 132];
-    let answers = cases::lent_numbers(line, texts.next, &mut xs);
-    let mut os = [0u32; 2100];
-    let offsets = cases::lent(line, answers.next, &mut os);
-    let f = cases::first(line, texts.next);
-    let g = cases::first(line, answers.next);
-    let n = texts.count;
-    let m = answers.count;
-    let k = offsets.count;
-    plan_texts(
-        rt,
-        &bytes[..n],
-        budget.value,
-        &mut xs[..m],
-        &mut os[..k],
-        f,
-        g,
-    );
-}
-
-// The answer, and what has changed in the lists, which begin with f and with g.
-fn plan_texts(
-    rt: &impl Print,
-    texts: &[u8],
-    budget: u64,
-    answers: &mut [u64],
-    offsets: &mut [u32],
-    f: u64,
-    g: u64,
-) {
-    let mut answer = [0u64; 3];
+// A budget, joined texts and two lent lists, for their answers and their offsets, of which what has changed is shown.
+fn texts_and_rooms(rt: &impl Print, mut case: Case<'_>) {
+    let budget = case.number();
+    let mut texts = [0; LARGE_BUFFER];
+    let texts = case.parts(&mut texts);
+    let lent_answers = case.lent();
+    let mut answers = [0; ROW_ROOM];
+    let answers = lent_answers.fill(&mut answers);
+    let lent_offsets = case.lent();
+    let mut offsets = [0; OFFSET_ROOM];
+    let offsets = lent_offsets.fill(&mut offsets);
+    let mut answer = [0; 3];
     seamwhisk::seamwhisk_plan_texts_flat(texts, budget, answers, offsets, &mut answer);
-    show::three(rt, &answer);
-    show::changes(rt, answers, f);
-    show::word_changes(rt, offsets, g);
+    show::answer(rt, &answer);
+    show::changes(rt, answers, lent_answers);
+    show::changes(rt, offsets, lent_offsets);
 }

@@ -1,9 +1,0 @@
--- Invariant: `at` is at most the length; each line moves it on.
-use Rattle.std.proofs.Common.{◌-◌, ◌≤◌, length}
-use Rattle.replay.proofs.run.Given as goal
-
-abbrev pub invariant-loop-at : goal.invariant-loop-at
-invariant-loop-at g l = l.at ≤ length l.text
-
-abbrev pub decreases-loop-at : goal.decreases-loop-at
-decreases-loop-at g l = length l.text - l.at

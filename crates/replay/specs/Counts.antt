@@ -1,6 +1,0 @@
--- What the contracts of a buffer that is filled from the front cite.
-use Rattle.std.specs.Prelude.{◌≡◌, ℕ, ◌≤◌, List, length, take}
-
--- `&xs[..n]` is in bounds and has n elements. The second part follows from the first, and spares a caller's `&xs[..n]` a proof.
-abbrev pub IsPrefixLen : ℕ → List ℕ → Type 0
-IsPrefixLen n xs = (n ≤ length xs) × (n ≡ length (take n xs))
