@@ -18,6 +18,12 @@ use ground::{Fault, Refusal};
 use link::limits::MAX_ROWS;
 use link::{Circle, Link, Start};
 
+// Room for the starts of all rows.
+const NO_STARTS: [Start; MAX_ROWS] = [Start {
+    first: 0,
+    second: 0,
+}; MAX_ROWS];
+
 // An earlier row that gives way, its new offset, and the new row's.
 #[derive(Clone, Copy, Debug, PartialEq, Eq)]
 pub struct Move {
@@ -55,10 +61,7 @@ fn plan(circle: Circle, delays: &[u32], offsets: &mut [u32]) -> Result<(), Fault
     ensures { gives (said result) offsets.new
         ≡ outcome (all_settled circle.period circle.span delays.now) offsets.old }
 {
-    let mut starts = [Start {
-        first: 0,
-        second: 0,
-    }; MAX_ROWS];
+    let mut starts = NO_STARTS;
     for (j, delay) in delays.iter().enumerate() {
         if let Some(free) = quick::first_free(circle, *delay, &starts[..j], 1, 0, circle.period) {
             starts[j] = circle.start(*delay, free);
@@ -84,26 +87,20 @@ fn find_move(circle: Circle, delays: &[u32], delay: u32, starts: &[Start]) -> Op
     ensures { as_move result ≡ least_move circle.period
         (can_move circle.period circle.span delays.now delay (firsts starts.now) (seconds starts.now)) (length starts.now) }
 {
-    for (row, moving) in delays.iter().enumerate() {
-        if let Some(found) = give_way(circle, row, *moving, delay, starts) {
-            return Some(found);
-        }
-    }
-    None
+    let mut rows = delays.iter().enumerate();
+    rows.find_map(|(row, moving)| give_way(circle, row, *moving, delay, starts))
 }
 
-// The same for this one row, whose delay is `moving`: the last row stands in its place.
+// The same for this one row, whose delay is `moving`.
 fn give_way(circle: Circle, row: usize, moving: u32, delay: u32, starts: &[Start]) -> Option<Move>
     requires ways { Ways circle.period circle.span 1 circle.period }
     requires row_in_bounds { (row < length starts.now) × (length starts.now ≤ max_rows) }
     ensures { as_move result ≡ move_of circle.period
         (fits circle.period circle.span moving delay (without row (firsts starts.now)) (without row (seconds starts.now))) row }
 {
-    let mut others = [Start {
-        first: 0,
-        second: 0,
-    }; MAX_ROWS];
+    let mut others = NO_STARTS;
     ground::copy_out(starts, &mut others);
+    // the last row stands in its place
     let last = starts.len() - 1;
     others[row] = starts[last];
     make_room(circle, row, moving, delay, &others[..last])
@@ -137,10 +134,7 @@ fn beside(circle: Circle, delay: u32, starts: &[Start], moved: Start, from: u32)
     ensures { FirstOpen (open_to circle.period circle.span delay
         (firsts (starts.now ++ (moved ∷ []))) (seconds (starts.now ++ (moved ∷ []))) 1) from circle.period result }
 {
-    let mut others = [Start {
-        first: 0,
-        second: 0,
-    }; MAX_ROWS];
+    let mut others = NO_STARTS;
     ground::copy_out(starts, &mut others);
     others[starts.len()] = moved;
     quick::first_free(
