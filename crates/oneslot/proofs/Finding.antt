@@ -1,4 +1,6 @@
 -- How the code's walk over the rows finds the least move: row by row, each left out of the lists of starts. Assumes nothing.
+use Rattle.std.specs.Prelude.{Option, Some, None as Nothing, MatchOption}
+use Rattle.oneslot.specs.declared.Move.{Move as RowMove}
 use mathlib.Core.Path.{◌≡◌, refl}
 use mathlib.Core.Bool.{Bool, true, false, cond}
 use mathlib.Core.List.{List, ◌++◌}
@@ -12,7 +14,7 @@ use Rattle.ground.proofs.Minimum.{least_at, some_at, some_none}
 use Rattle.link.specs.Starts.{firsts, seconds}
 use Rattle.link.specs.declared.Start.{Start}
 use Rattle.link.proofs.Columns.{firsts_length, seconds_length, first_at, second_at, firsts_take, seconds_take, firsts_set, seconds_set}
-use Rattle.oneslot.specs.Moves.{Move, None, Row, opens, move_of, gives_way, least_move}
+use Rattle.oneslot.specs.Moves.{Move, None, Row, as_move, opens, move_of, gives_way, least_move}
 use Rattle.oneslot.specs.Others.{without}
 
 module _ (p : ℕ) (q : ℕ → ℕ → ℕ → Bool) where
@@ -30,15 +32,15 @@ module _ (p : ℕ) (q : ℕ → ℕ → ℕ → Bool) where
       go true e = gives _ _ e
       go false e = stays e
 
-  pub not_this_row : (i : ℕ) → None ≡ move_of p (q i) i → gives_way p q i ≡ false
+  not_this_row : (i : ℕ) → None ≡ move_of p (q i) i → gives_way p q i ≡ false
   not_this_row i e = go (found i) e
     where
       go : {m : Move} → Found i m → None ≡ m → gives_way p q i ≡ false
       go (gives x y w) f = never (cc)
       go (stays w) f = w
 
-  -- the first row that gives way is the least one
-  pub this_row : (n i : ℕ) → i < n → ((k : ℕ) → k < i → gives_way p q k ≡ false) → (r x y : ℕ) → Row r x y ≡ move_of p (q i) i
+  -- the first of n rows that gives way is the least one
+  this_row : (n i : ℕ) → i < n → ((k : ℕ) → k < i → gives_way p q k ≡ false) → (r x y : ℕ) → Row r x y ≡ move_of p (q i) i
       → Row r x y ≡ least_move p q n
   unfolding least_move
   this_row n i h before r x y e =
@@ -49,9 +51,17 @@ module _ (p : ℕ) (q : ℕ → ℕ → ℕ → Bool) where
       go (gives x' y' w) f = w
       go (stays w) f = never (cc)
 
-  pub no_row : (n : ℕ) → ((k : ℕ) → k < n → gives_way p q k ≡ false) → None ≡ least_move p q n
+  no_row : (n : ℕ) → ((k : ℕ) → k < n → gives_way p q k ≡ false) → None ≡ least_move p q n
   unfolding least_move
   no_row n h = rw (some_none (gives_way p q) n h)
+
+  -- the code asks one row after the other: none gives way, or the first that does is the answer
+  pub asked : (n : ℕ) (r : Option RowMove)
+      → MatchOption r ((k : ℕ) → k < n → None ≡ move_of p (q k) k)
+      (λ m. (i : ℕ) × (i < n) × (Row m.row m.to m.offset ≡ move_of p (q i) i) × ((k : ℕ) → k < i → None ≡ move_of p (q k) k))
+      → as_move r ≡ least_move p q n
+  asked n Nothing t = no_row n (λ k h. not_this_row k (t k h))
+  asked n (Some m) t = this_row n t.0 t.1 (λ k h. not_this_row k (t.3 k h)) m.row m.to m.offset t.2
 
 -- row i left out of an array that begins with the starts ss: the last one stands in its place
 module _ (ss rest : List Start) (i : ℕ) (d : Start) (h : i < length ss) where

@@ -9,13 +9,12 @@ use Rattle.oneslot.specs.Answer.{one_slot}
 use Rattle.oneslot.proofs.Accepted.{good_one}
 use Rattle.oneslot.proofs.one_slot.Goals as goal
 
+pub invariant_of-ring : goal.invariant_of-ring
+invariant_of-ring c =
+    rw (c.circle.ensures.0, c.circle.ensures.1) record { ways = each_offset _ _ (good_one _ _ _ (sym c.in_ok-judge.ensures)).table }
+
 pub plan-requires : goal.plan-requires
-plan-requires c =
-    let g = good_one _ _ _ (sym c.in_ok-judge.ensures) in
-    rw (c.circle.ensures.0, c.circle.ensures.1) record {
-      delays_len_bound = (g.table.rows_high, g.enough);
-      ways = each_offset _ _ g.table;
-    }
+plan-requires c = let g = good_one _ _ _ (sym c.in_ok-judge.ensures) in (g.table.rows_high, g.enough)
 
 pub returns-in_err-judge : goal.returns-in_err-judge
 unfolding said one_slot

@@ -5,20 +5,20 @@ use Rattle.link.proofs.Columns.{firsts_length, seconds_length, firsts_take}
 use Rattle.quick.specs.Answer.{said, outcome}
 use Rattle.oneslot.proofs.Coming.{row_low, comes_free, stays_out, comes_moving}
 use Rattle.oneslot.proofs.Settling.{none_yet}
-use Rattle.oneslot.proofs.plan.Goals as goal
+use Rattle.oneslot.proofs.Ring.plan.Goals as goal
 
 pub loop-j-init : goal.loop-j-init
 loop-j-init c = none_yet _ _ _ _ _ (firsts_length _) (seconds_length _)
 
 pub loop-j-preserved-in-Some : goal.loop-j-preserved-in-Some
 loop-j-preserved-in-Some c =
-    comes_free _ _ _ c.requires.ways c.loop-j.j (omega arith) c.loop-j-test.true c.loop-j.starts c.loop-j.invariant _ c.in-Some.ensures.0
+    comes_free _ _ _ c.args.self.ways c.loop-j.j (omega arith) c.loop-j-test.true c.loop-j.starts c.loop-j.invariant _ c.in-Some.ensures.0
     c.in-Some.ensures.1 c.start.result c.start.ensures
 
 pub returns-in_default-find_move : goal.returns-in_default-find_move
 unfolding said outcome
 returns-in_default-find_move c =
-    let out = stays_out _ _ _ c.requires.ways c.loop-j.j (omega arith) c.loop-j-test.true c.loop-j.starts c.loop-j.invariant _
+    let out = stays_out _ _ _ c.args.self.ways c.loop-j.j (omega arith) c.loop-j-test.true c.loop-j.starts c.loop-j.invariant _
     c.in_default.ensures (omega arith) _ c.in_default-find_move.ensures refl in
     rw (out (length c.args.delays.now) c.loop-j-test.true)
 
@@ -36,7 +36,7 @@ bounds-starts-found c = omega (arith, row_low _ _ c.loop-j.j c.loop-j.starts (om
 
 pub loop-j-preserved : goal.loop-j-preserved
 loop-j-preserved c =
-    comes_moving _ _ _ c.requires.ways c.loop-j.j (omega arith) c.loop-j-test.true c.loop-j.starts c.loop-j.invariant _
+    comes_moving _ _ _ c.args.self.ways c.loop-j.j (omega arith) c.loop-j-test.true c.loop-j.starts c.loop-j.invariant _
     c.in_default.ensures (omega arith) _ c.in-Some-find_move.ensures _ _ _ refl c.start-in-loop-j.result c.start-in-loop-j-2.result
     c.start-in-loop-j.ensures c.start-in-loop-j-2.ensures
 
