@@ -5,7 +5,7 @@ use mathlib.Core.List.{List}
 use Prim.Native.Nat.{ℕ, ◌+◌, ◌-◌, ◌<◌}
 use native.Mathlib.Omega.{arith}
 use lib.Dec.{eqb}
-use Rattle.std.specs.Prelude.{Some, Ok}
+use Rattle.std.specs.Prelude.{Some}
 use lib.ListN.{length, get_or, take, drop, length-drop}
 use lib.Seq.{length-take-le, get_or-take, get_or-drop}
 use borrow.Author.Tests.{eq-eqb, ne_eqb}
@@ -13,17 +13,17 @@ use Rattle.ground.proofs.Filling.{tail_part}
 use Rattle.ground.proofs.Minimum.{least_at}
 use Rattle.text.specs.Bytes.{newline, seek}
 use Rattle.text.specs.Decimal.{is_decimal}
-use Rattle.text.specs.Steps.{Counted, InFront, NumberLine, end_says, number_says, delay_says, line_says, LineSaid}
+use Rattle.text.specs.Steps.{Counted, InFront, NumberLine, LineAt, number_says, delay_says, line_says, LineSaid}
 use Rattle.text.proofs.Decimals.{digit, is_decimal_lem}
 use Rattle.text.proofs.Forms.{row_not_last}
-use Rattle.text.proofs.Lined.{ends_there, row_answer}
+use Rattle.text.proofs.Lined.{line_there, row_answer}
 use Rattle.text.proofs.LineForms.{row_value}
 
 -- d digits, and byte 10 behind them
 module _ (y : List ℕ) (d v : ℕ) (w : Counted y d v) where
-  line_there : d < length y → get_or y d 0 ≡ newline → seek newline y ≡ d
+  ends_there : d < length y → get_or y d 0 ≡ newline → seek newline y ≡ d
   unfolding seek
-  line_there l e =
+  ends_there l e =
       least_at (λ i. eqb (get_or y i 0) newline) (length y) d w.inside
       (λ i h. ne_eqb (get_or y i 0) newline (λ f. let b = digit (get_or y i 0) (w.digits i h) in omega (arith, f, b))) (λ _. eq-eqb _ _ e)
 
@@ -31,10 +31,10 @@ module _ (x : List ℕ) (at d v : ℕ) (w : InFront (take (length x - at) (drop 
   counted : Counted (drop at x) d v
   counted = rw (tail_part x at) at w.counted
 
-  behind : Ok (at + d) ≡ end_says x at
-  behind =
+  there : LineAt x at (take (at + d - at) (drop at x)) at (at + d + 1)
+  there =
       let l : d < length (drop at x) = omega (arith, length-drop at x, n.inside) in
-      ends_there x at d l (line_there (drop at x) d v counted l (get_or-drop at x d 0 ∙ n.ends))
+      line_there x at d (ends_there (drop at x) d v counted l (get_or-drop at x d 0 ∙ n.ends)) l
 
   -- the line, as the code takes it
   as_long : length (take (at + d - at) (drop at x)) ≡ d
@@ -57,5 +57,5 @@ module _ (x : List ℕ) (at d v : ℕ) (w : InFront (take (length x - at) (drop 
 
   pub number_answer : (rows : ℕ) (r : LineSaid) → r ≡ delay_says rows v at (at + d + 1) → r ≡ line_says x at rows
   number_answer rows r e =
-      row_answer x at (at + d) behind rows r (row_not_last _ is_number)
+      row_answer x at _ at (at + d + 1) there rows r (row_not_last _ is_number)
       (row_value rows _ at (at + d + 1) v r says_number e)

@@ -1,16 +1,15 @@
 -- What the inner functions answer. The contracts of the readers do not rest on it.
-use Rattle.std.specs.Prelude.{◌≡◌, true, false, cond, not, List, [], ◌∷◌, ℕ, suc, ◌+◌, ◌-◌, ◌≤◌, ◌<◌, ltb, leb, length, get_or, take, drop}
+use Rattle.std.specs.Prelude.{◌≡◌, true, false, cond, not, List, [], ◌∷◌, ℕ, suc, ◌-◌, ◌≤◌, ◌<◌, ltb, leb, length, get_or, take, drop}
 use Rattle.std.specs.Prelude.{Option, Some, None, Result, Ok, Err}
 use Rattle.ground.specs.Judging.{Cause, first, when}
 use Rattle.ground.specs.Protocol.{unless}
 use Rattle.ground.specs.Judging.{Fine}
 use Rattle.ground.specs.Refusals.{number_of}
 use Rattle.ground.specs.declared.Fault.{Fault}
-use Rattle.ground.specs.declared.Refusal.TheVariants.{CutLine}
 use Rattle.link.specs.Limits.{max_delay, max_rows, bad_delay, bad_rows}
 use Rattle.link.specs.declared.Link.{Link}
 use Rattle.text.specs.Limits.{cut_line}
-use Rattle.text.specs.Bytes.{newline, seek}
+use Rattle.text.specs.Bytes.{newline}
 use Rattle.text.specs.Decimal.{max_digits, is_other, leading_zero, is_decimal, value}
 use Rattle.text.specs.Lines.{next_line, begin, line_from, ended_from}
 use Rattle.text.specs.Faults.{is_pair, link_of, is_last, pair_faults, row_faults, last_faults, own_faults, lines_faults, text_faults}
@@ -86,9 +85,18 @@ pub record NumberLine (x : List ℕ) (at e : ℕ) : Type 0 where
 unfoldable pub faults_from : List ℕ → ℕ → ℕ → List Cause
 faults_from x at k = when (not (ended_from x at)) cut_line at ∷ own_faults k (line_from x at) at
 
--- where the line from `at` ends, if a byte 10 remains; else 3
-unfoldable pub end_says : List ℕ → ℕ → Result ℕ Fault
-end_says x at = cond (ended_from x at) (Ok (at + seek newline (drop at x))) (Err (record { refusal = CutLine; place = at }))
+-- the line of x that begins at `from`, and ends: its bytes, the place of the first, and the place behind it
+pub record LineAt (x : List ℕ) (from : ℕ) (l : List ℕ) (at next : ℕ) : Type 0 where
+  pub ended : ended_from x from ≡ true
+  pub bytes : l ≡ line_from x from
+  pub start : at ≡ from
+  pub behind : next ≡ next_line x from
+
+-- no byte 10 remains at or behind `at`: 3
+pub record CutAt (x : List ℕ) (at : ℕ) (f : Fault) : Type 0 where
+  pub cut : ended_from x at ≡ false
+  pub number : number_of f.refusal ≡ cut_line
+  pub place : f.place ≡ at
 
 -- line two, from `at` on: its link, and where the rows begin
 unfoldable pub second_says : List ℕ → ℕ → HeadSaid

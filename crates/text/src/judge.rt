@@ -1,4 +1,4 @@
-// What a line says by itself, or what is wrong with it: its bytes, and the place of the first.
+// What a line says by itself, or what is wrong with it.
 ghost use Rattle.std.specs.Prelude.{◌≡◌, true};
 ghost use Rattle.ground.specs.Judging.{first};
 ghost use Rattle.ground.specs.Refusals.{judged};
@@ -27,17 +27,12 @@ pub(crate) enum Line {
     Last { next: usize },
 }
 
-// Line one: 2.
-pub(crate) fn title(line: &[u8], at: usize) -> Result<(), Fault>
-    ensures { judged result ≡ first (title_faults line.now at) }
-{
-    if line != b"pma 1".as_slice() {
-        return Err(Fault {
-            refusal: Refusal::BadLineOne,
-            place: at,
-        });
-    }
-    Ok(())
+// A line in its text: its bytes without byte 10, the place of the first, and the place behind it.
+#[derive(Clone, Copy)]
+pub(crate) struct Placed<'a> {
+    pub(crate) bytes: &'a [u8],
+    pub(crate) at: usize,
+    pub(crate) next: usize,
 }
 
 // Two numbers with one space between them.
@@ -50,83 +45,90 @@ fn two_numbers(line: &[u8]) -> Option<Link>
     Some(Link { period, size })
 }
 
-// Line two, behind which `next` is the place: 4, 5, 6.
-pub(crate) fn line_two(line: &[u8], at: usize, next: usize) -> Result<Head, Fault>
-    ensures { head_said result ≡ pair_says line.now at next }
-{
-    let Some(link) = two_numbers(line) else {
-        return Err(Fault {
-            refusal: Refusal::BadLine,
-            place: at,
-        });
-    };
-    match link::judge::link_values(link) {
-        Ok(_) => Ok(Head { link, at: next }),
-        Err(fault) => Err(Fault { place: at, ..fault }),
+impl Placed<'_> {
+    // A fault of the line is at its first byte.
+    fn fault(self, refusal: Refusal) -> Fault
+        ensures { (result.refusal ≡ refusal) × (result.place ≡ self.entry.at) }
+    {
+        Fault {
+            refusal,
+            place: self.at,
+        }
     }
-}
 
-// A line that begins with `end` and a space is the last one.
-pub(crate) fn is_last(line: &[u8]) -> bool
-    ensures { result ≡ is_last line.now }
-{
-    ground::begins(b"end ", line)
-}
+    // Line one: 2.
+    pub(crate) fn title(self) -> Result<(), Fault>
+        ensures { judged result ≡ first (title_faults self.entry.bytes.now self.entry.at) }
+    {
+        if self.bytes != b"pma 1".as_slice() {
+            return Err(self.fault(Refusal::BadLineOne));
+        }
+        Ok(())
+    }
 
-// A row behind so many others: 4, 7, 8.
-pub(crate) fn row_line(line: &[u8], at: usize, rows: usize, next: usize) -> Result<Line, Fault>
-    ensures { line_said result ≡ row_says rows line.now at next }
-{
-    let Some(delay) = decimal::read(line) else {
-        return Err(Fault {
-            refusal: Refusal::BadLine,
-            place: at,
-        });
-    };
-    delay_line(delay, at, rows, next)
-}
+    // Line two: 4, 5, 6.
+    pub(crate) fn pair(self) -> Result<Head, Fault>
+        ensures { head_said result ≡ pair_says self.entry.bytes.now self.entry.at self.entry.next }
+    {
+        let Some(link) = two_numbers(self.bytes) else {
+            return Err(self.fault(Refusal::BadLine));
+        };
+        match link::judge::link_values(link) {
+            Ok(_) => Ok(Head {
+                link,
+                at: self.next,
+            }),
+            Err(fault) => Err(self.fault(fault.refusal)),
+        }
+    }
 
-// A row whose number is read: 7, 8.
-pub(crate) fn delay_line(delay: u32, at: usize, rows: usize, next: usize) -> Result<Line, Fault>
-    ensures { line_said result ≡ delay_says rows delay at next }
-{
-    if delay > MAX_DELAY {
-        return Err(Fault {
-            refusal: Refusal::BadDelay,
-            place: at,
-        });
+    // A line that begins with `end` and a space is the last one.
+    pub(crate) fn is_last(self) -> bool
+        ensures { result ≡ is_last self.entry.bytes.now }
+    {
+        ground::begins(b"end ", self.bytes)
     }
-    if rows >= MAX_ROWS {
-        return Err(Fault {
-            refusal: Refusal::BadRows,
-            place: at,
-        });
-    }
-    Ok(Line::More { delay, next })
-}
 
-// The last line, behind so many rows: 4, 8, 9.
-pub(crate) fn last_line(line: &[u8], at: usize, rows: usize, next: usize) -> Result<Line, Fault>
-    requires { is_last line.now ≡ true }
-    ensures { line_said result ≡ last_says rows line.now at next }
-{
-    let Some(count) = decimal::read(&line[END_WORD..]) else {
-        return Err(Fault {
-            refusal: Refusal::BadLine,
-            place: at,
-        });
-    };
-    if rows == 0 {
-        return Err(Fault {
-            refusal: Refusal::BadRows,
-            place: at,
-        });
+    // A row behind so many others: 4, 7, 8.
+    pub(crate) fn row(self, rows: usize) -> Result<Line, Fault>
+        ensures { line_said result ≡ row_says rows self.entry.bytes.now self.entry.at self.entry.next }
+    {
+        let Some(delay) = decimal::read(self.bytes) else {
+            return Err(self.fault(Refusal::BadLine));
+        };
+        self.delay(delay, rows)
     }
-    if count as usize != rows {
-        return Err(Fault {
-            refusal: Refusal::BadCount,
-            place: at,
-        });
+
+    // A row whose number is read: 7, 8.
+    pub(crate) fn delay(self, delay: u32, rows: usize) -> Result<Line, Fault>
+        ensures { line_said result ≡ delay_says rows delay self.entry.at self.entry.next }
+    {
+        if delay > MAX_DELAY {
+            return Err(self.fault(Refusal::BadDelay));
+        }
+        if rows >= MAX_ROWS {
+            return Err(self.fault(Refusal::BadRows));
+        }
+        Ok(Line::More {
+            delay,
+            next: self.next,
+        })
     }
-    Ok(Line::Last { next })
+
+    // The last line, behind so many rows: 4, 8, 9.
+    pub(crate) fn last(self, rows: usize) -> Result<Line, Fault>
+        requires { is_last self.bytes.now ≡ true }
+        ensures { line_said result ≡ last_says rows self.entry.bytes.now self.entry.at self.entry.next }
+    {
+        let Some(count) = decimal::read(&self.bytes[END_WORD..]) else {
+            return Err(self.fault(Refusal::BadLine));
+        };
+        if rows == 0 {
+            return Err(self.fault(Refusal::BadRows));
+        }
+        if count as usize != rows {
+            return Err(self.fault(Refusal::BadCount));
+        }
+        Ok(Line::Last { next: self.next })
+    }
 }

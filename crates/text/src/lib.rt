@@ -6,13 +6,13 @@ mod decimal;
 mod judge;
 pub mod limits;
 
-ghost use Rattle.std.specs.Prelude.{◌≡◌, true, ◌≤◌, ◌<◌, length, IfOk};
+ghost use Rattle.std.specs.Prelude.{◌≡◌, true, ◌≤◌, length, IfOk, IfErr};
 ghost use Rattle.ground.specs.Protocol.{gives};
 ghost use Rattle.text.specs.Answer.{said, reading};
 ghost use Rattle.text.specs.TextAnswer.{text_said, reading_text};
-ghost use Rattle.text.specs.Steps.{head_said, line_said, end_says, head_says, second_says, line_says, NumberLine, Kept, Rows};
+ghost use Rattle.text.specs.Steps.{head_said, line_said, head_says, second_says, line_says, NumberLine, LineAt, CutAt, Kept, Rows};
 
-use crate::judge::{Head, Line};
+use crate::judge::{Head, Line, Placed};
 use crate::limits::MAX_TEXT;
 use ground::{Fault, Refusal};
 use link::Link;
@@ -104,11 +104,11 @@ fn read_rows(text: &[u8], head: Head, kept: &mut [u32; MAX_ROWS]) -> Result<Text
     }
 }
 
-// Where the line from `at` ends: its byte 10. Where the text ends before it: 3.
-fn line_end(text: &[u8], at: usize) -> Result<usize, Fault>
+// The line that begins at `at`, up to its byte 10. Where the text ends before it: 3.
+fn line_at(text: &[u8], at: usize) -> Result<Placed<'_>, Fault>
     requires { at ≤ length text.now }
-    ensures says { result ≡ end_says text.now at }
-    ensures inside { IfOk result (λ end. (at ≤ end) × (end < length text.now)) }
+    ensures whole { IfOk result (λ line. LineAt text.now at line.bytes.now line.at line.next) }
+    ensures cut { IfErr result (λ fault. CutAt text.now at fault) }
 {
     let Some(size) = bytes::find(&text[at..], b'\n') else {
         return Err(Fault {
@@ -116,16 +116,21 @@ fn line_end(text: &[u8], at: usize) -> Result<usize, Fault>
             place: at,
         });
     };
-    Ok(at + size)
+    let end = at + size;
+    Ok(Placed {
+        bytes: &text[at..end],
+        at,
+        next: end + 1,
+    })
 }
 
 // Lines one and two: 3, 2, 3, 4, 5, 6.
 fn first_lines(text: &[u8]) -> Result<Head, Fault>
     ensures { head_said result ≡ head_says text.now }
 {
-    let end = line_end(text, 0)?;
-    judge::title(&text[..end], 0)?;
-    second(text, end + 1)
+    let line = line_at(text, 0)?;
+    line.title()?;
+    second(text, line.next)
 }
 
 // Line two, which begins at `at`: 3, 4, 5, 6.
@@ -133,8 +138,7 @@ fn second(text: &[u8], at: usize) -> Result<Head, Fault>
     requires { at ≤ length text.now }
     ensures { head_said result ≡ second_says text.now at }
 {
-    let end = line_end(text, at)?;
-    judge::line_two(&text[at..end], at, end + 1)
+    line_at(text, at)?.pair()
 }
 
 // A line behind so many rows, which begins at `at`. Nearly all are a number and byte 10, which one look at each byte tells.
@@ -145,7 +149,12 @@ fn next_line(text: &[u8], at: usize, rows: usize) -> Result<Line, Fault>
     let front = decimal::digits(&text[at..]);
     let end = at + front.digits;
     if is_number(text, at, end) {
-        return judge::delay_line(front.value, at, rows, end + 1);
+        let line = Placed {
+            bytes: &text[at..end],
+            at,
+            next: end + 1,
+        };
+        return line.delay(front.value, rows);
     }
     any_line(text, at, rows)
 }
@@ -163,10 +172,9 @@ fn any_line(text: &[u8], at: usize, rows: usize) -> Result<Line, Fault>
     requires { at ≤ length text.now }
     ensures { line_said result ≡ line_says text.now at rows }
 {
-    let end = line_end(text, at)?;
-    let line = &text[at..end];
-    if judge::is_last(line) {
-        return judge::last_line(line, at, rows, end + 1);
+    let line = line_at(text, at)?;
+    if line.is_last() {
+        return line.last(rows);
     }
-    judge::row_line(line, at, rows, end + 1)
+    line.row(rows)
 }
