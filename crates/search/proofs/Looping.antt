@@ -86,11 +86,12 @@ module _ {p l : ℕ} {ds : List ℕ} {n v budget : ℕ} {s xs ys : List ℕ} {le
         (rw (walk_step r d s (step_at k) (steps_from p n s (k + 1)) _ from_here, ← more_or 1 (tried r d s (step_at k)) later) a)
 
     module _ {s' : List ℕ} where
-      pub one_finds : {m : ℕ} → Answered left xs (here xs) (Found m) s' → Answered budget s (deep (rules p l ds n) v s) (Found m) s'
-      one_finds {m} a = both (Found m) s' (or_found left s s' (here s) later m (rw g.same at a))
-
-      pub one_runs_out : Answered left xs (here xs) Spent s' → Answered budget s (deep (rules p l ds n) v s) Spent s'
-      one_runs_out a =
+      -- any answer to it but "nothing" is the answer
+      pub one_ends : (h : Hunt) → ((m : ℕ) → h ≡ Nothing m → ⊥) → Answered left xs (here xs) h s'
+          → Answered budget s (deep (rules p l ds n) v s) h s'
+      one_ends (Found m) other a = both (Found m) s' (or_found left s s' (here s) later m (rw g.same at a))
+      one_ends (Nothing m) other a = absurd (other m refl)
+      one_ends Spent other a =
           let b = rw g.same at a in
           rw (ends left s s' (here s) Spent b).same (both Spent s (or_spent left s s' (here s) later b))
 

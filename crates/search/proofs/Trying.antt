@@ -95,24 +95,20 @@ module _ {p l : ℕ} {ds : List ℕ} {n : ℕ} (t : Table p l ds n) {s ys : List
           → Answered left s (more 1 (tried (rules p l ds n) d s (step_at k))) (Found m) s'
       finds {m} w = one_more (Found m) s' (rw (← goes_deeper e) (found_from (left - 1) there s s' (d there) m w))
 
-      pub in_vain : {m : ℕ} (y : ℕ) → Answered (left - 1) there (d there) (Nothing m) s'
-          → Answered left s (more 1 (tried (rules p l ds n) d s (step_at k))) (Nothing m) again
-          × Starts p ds n again (set ys' (row_of k) y)
-      in_vain {m} y w =
-          let q = (ends (left - 1) there s' _ (Nothing m) w).same in
-          (one_more (Nothing m) again (nothing_again m w q), row_again y q)
+      -- where nothing was found, the row's start is put back
+      pub in_vain : (y : ℕ) (h : Hunt) → ((m : ℕ) → h ≡ Found m → ⊥) → Answered (left - 1) there (d there) h s'
+          → Answered left s (more 1 (tried (rules p l ds n) d s (step_at k))) h again × Starts p ds n again (set ys' (row_of k) y)
+      in_vain y h other w = (one_more h again (answered h other w), row_again y (same h other w))
         where
-          nothing_again : (m : ℕ) → Answered (left - 1) there (d there) (Nothing m) s' → s' ≡ there
-              → Answered (left - 1) s (tried (rules p l ds n) d s (step_at k)) (Nothing m) again
-          nothing_again m w q = rw (← goes_deeper e, put_back s s' (row_of k) a q) (nothing_from (left - 1) there s s' (d there) m w)
+          same : (h : Hunt) → ((m : ℕ) → h ≡ Found m → ⊥) → Answered (left - 1) there (d there) h s' → s' ≡ there
+          same (Found m) other w = absurd (other m refl)
+          same (Nothing m) other w = (ends (left - 1) there s' _ (Nothing m) w).same
+          same Spent other w = (ends (left - 1) there s' _ Spent w).same
 
-      pub runs_out : (y : ℕ) → Answered (left - 1) there (d there) Spent s'
-          → Answered left s (more 1 (tried (rules p l ds n) d s (step_at k))) Spent again
-          × Starts p ds n again (set ys' (row_of k) y)
-      runs_out y w =
-          let q = (ends (left - 1) there s' _ Spent w).same in
-          (one_more Spent again (spent_again w q), row_again y q)
-        where
-          spent_again : Answered (left - 1) there (d there) Spent s' → s' ≡ there
-              → Answered (left - 1) s (tried (rules p l ds n) d s (step_at k)) Spent again
-          spent_again w q = rw (← goes_deeper e, put_back s s' (row_of k) a q) (spent_from (left - 1) there s s' (d there) w)
+          answered : (h : Hunt) → ((m : ℕ) → h ≡ Found m → ⊥) → Answered (left - 1) there (d there) h s'
+              → Answered (left - 1) s (tried (rules p l ds n) d s (step_at k)) h again
+          answered (Found m) other w = absurd (other m refl)
+          answered (Nothing m) other w =
+              rw (← goes_deeper e, put_back s s' (row_of k) a (same (Nothing m) other w)) (nothing_from (left - 1) there s s' (d there) m w)
+          answered Spent other w =
+              rw (← goes_deeper e, put_back s s' (row_of k) a (same Spent other w)) (spent_from (left - 1) there s s' (d there) w)

@@ -213,17 +213,11 @@ impl Rows {
         }
         let old = board[j];
         board[j] = new;
-        match self.descend(board, unplaced, rest) {
-            Hunt::Found(left) => Hunt::Found(left),
-            Hunt::Nothing(left) => {
-                board[j] = old;
-                Hunt::Nothing(left)
-            }
-            Hunt::Spent => {
-                board[j] = old;
-                Hunt::Spent
-            }
+        let hunt = self.descend(board, unplaced, rest);
+        if !matches!(hunt, Hunt::Found(_)) {
+            board[j] = old;
         }
+        hunt
     }
 
     // Places the rows that are left, `unplaced` of them.
@@ -244,16 +238,11 @@ impl Rows {
                 return Hunt::Spent;
             }
             match self.try_step(board, unplaced - 1, k, left) {
-                Hunt::Found(rest) => {
-                    return Hunt::Found(rest);
-                }
-                Hunt::Spent => {
-                    return Hunt::Spent;
-                }
                 Hunt::Nothing(rest) => {
                     left = rest;
                     k = self.next_step(board, k + 1);
                 }
+                hunt => return hunt,
             }
         }
         Hunt::Nothing(left)
