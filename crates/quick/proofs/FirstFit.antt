@@ -34,7 +34,8 @@ module _ (k : Link) (ds old : List ℕ) (r : Planned) (new : List ℕ) (e : give
   abbrev Right : List ℕ → ℕ → Type 0
   Right os j = LeastFreeOffset k.period (span_of k) ds os j
 
-  pub first_fit_plan : r ≡ planned → (os : List ℕ) × (length os ≡ length ds) × (new ≡ on_front os old) × ((j : ℕ) → j < length ds → Right os j)
+  pub first_fit_plan : r ≡ planned
+      → (os : List ℕ) × (length os ≡ length ds) × (new ≡ on_front os old) × ((j : ℕ) → j < length ds → Right os j)
   first_fit_plan c =
       let w = (plan_is_right k ds old 1 k.period r new e).0 c in
       (w.offsets, w.right.as_many, w.written, each_least k.period (span_of k) ds w.offsets (length ds) w.right)

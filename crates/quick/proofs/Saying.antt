@@ -6,9 +6,10 @@ use lib.ListN.{get_or}
 use Rattle.std.specs.Prelude.{Ok, Err}
 use Rattle.ground.specs.Refusals.{number_of}
 use Rattle.ground.specs.declared.Refusal.{Refusal}
-use Rattle.ground.specs.declared.Refusal.TheVariants.{LongText, BadLineOne, CutLine, BadLine, BadPeriod, BadSize, BadDelay, BadRows, BadCount}
-use Rattle.ground.specs.declared.Refusal.TheVariants.{BytesAfter, BadLength, TooManyRows, NoOffset, NoBuild, BudgetSpent, WrongTag, BadOffset}
-use Rattle.ground.specs.declared.Refusal.TheVariants.{NotClear, CutFile, LongNumber, NeedlessGroup, LeftOver, LongInput, TooManyTexts, NotOneSlot}
+use Rattle.ground.specs.declared.Refusal.TheVariants.{LongText, BadLineOne, CutLine, BadLine, BadPeriod, BadSize, BadDelay}
+use Rattle.ground.specs.declared.Refusal.TheVariants.{BadRows, BadCount, BytesAfter, BadLength, TooManyRows, NoOffset, NoBuild}
+use Rattle.ground.specs.declared.Refusal.TheVariants.{BudgetSpent, WrongTag, BadOffset, NotClear, CutFile, LongNumber, NeedlessGroup}
+use Rattle.ground.specs.declared.Refusal.TheVariants.{LeftOver, LongInput, TooManyTexts, NotOneSlot}
 use Rattle.quick.specs.Answer.{Verdict, plan, refusal, Said, Planned, planned, said}
 
 -- the refusals in the order of their numbers, from 1 on

@@ -1,25 +1,15 @@
 use mathlib.Core.Path.{sym, ◌∙◌}
 use native.Mathlib.Omega.{arith}
-use native.Mathlib.Nat.{mul-le-mul_right}
 use Rattle.ground.proofs.Hunting.{from_at, between}
 use Rattle.link.proofs.Meeting.{second_low}
 use Rattle.quick.proofs.Candidates.{next_low, next_is, next_second, opens, some_met}
 use Rattle.quick.proofs.first_free.Goals as goal
-
-pub overflow_mul-from : goal.overflow_mul-from
-overflow_mul-from c = omega (arith, mul-le-mul_right c.args.step c.requires.from_le_count, c.requires.ways.low, c.requires.ways.period)
-
-pub loop-c-init : goal.loop-c-init
-loop-c-init c = (c.start-new.ensures.0, rw c.start-new.ensures.0 c.start-new.ensures.1, λ i h k. absurd (omega arith))
 
 pub returns-then-is_none : goal.returns-then-is_none
 returns-then-is_none c =
     let inv = c.loop-c.invariant in
     let opened = opens _ _ _ _ _ _ _ _ _ _ inv.0 inv.1 c.first_met.ensures ∙ some_met _ c.if-is_none.ensures in
     (sym (from_at _ _ _ _ (omega arith) (omega arith) inv.2 (λ _. opened)), c.loop-c-test.true)
-
-pub overflow_add-new : goal.overflow_add-new
-overflow_add-new c = omega (arith, next_low c.loop-c.c c.args.count c.args.step c.loop-c-test.true, c.requires.ways.low, c.requires.ways.period)
 
 pub turn-requires : goal.turn-requires
 turn-requires c = (

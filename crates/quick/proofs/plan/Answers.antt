@@ -1,10 +1,8 @@
-use mathlib.Core.Path.{◌≡◌, sym}
+use mathlib.Core.Path.{◌≡◌}
 use native.Mathlib.Omega.{arith}
 use lib.ListN.{length}
-use lib.Seq.{length-take-le}
 use Rattle.link.proofs.Columns.{firsts_length, seconds_length, firsts_take}
 use Rattle.quick.specs.Answer.{said, outcome}
-use Rattle.quick.proofs.Candidates.{next_low}
 use Rattle.quick.proofs.Keeping.{row_blocked, row_onward}
 use Rattle.quick.proofs.Placing.{none_yet}
 use Rattle.quick.proofs.plan.Goals as goal
@@ -12,26 +10,16 @@ use Rattle.quick.proofs.plan.Goals as goal
 pub loop-j-init : goal.loop-j-init
 loop-j-init c = none_yet _ _ _ _ _ _ _ (firsts_length _) (seconds_length _)
 
-pub slice_bounds-first_free-end : goal.slice_bounds-first_free-end
-slice_bounds-first_free-end c = sym (length-take-le _ _ (omega (arith, firsts_length c.loop-j.starts)))
-
 pub returns-in_default : goal.returns-in_default
 unfolding said outcome
 returns-in_default c =
     let stuck = row_blocked _ _ _ _ _ c.requires.ways c.loop-j.j (omega arith) c.loop-j.starts c.loop-j.invariant _ c.in_default.ensures in
     rw (stuck (omega arith) (length c.args.delays.now) (omega arith))
 
-pub overflow_mul-c : goal.overflow_mul-c
-overflow_mul-c c =
-    omega (arith, next_low c.in-Some.c c.args.count c.args.step c.in-Some.ensures.1, c.requires.ways.low, c.requires.ways.period)
-
 pub loop-j-preserved : goal.loop-j-preserved
 loop-j-preserved c =
     row_onward _ _ _ _ _ c.requires.ways c.loop-j.j (omega arith) c.loop-j.starts c.loop-j.invariant _ c.in-Some.ensures.0
     c.in-Some.ensures.1 c.start.result c.start.ensures
-
-pub copy_offsets-requires : goal.copy_offsets-requires
-copy_offsets-requires c = rw (length-take-le (length c.args.delays.now) c.loop-j.starts (omega arith)) c.requires.delays_len_bound.1
 
 pub returns : goal.returns
 unfolding said outcome
