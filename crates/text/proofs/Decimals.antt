@@ -1,19 +1,21 @@
 -- What a decimal number is, and its value digit by digit, with the bound on it. Assumes nothing.
 use mathlib.Core.Path.{◌≡◌, refl, sym, ap, ◌∙◌}
-use mathlib.Core.Bool.{true, false, not, ◌&&◌}
+use mathlib.Core.Bool.{Bool, true, false, not, ◌&&◌, and-false}
 use mathlib.Core.List.{List, [], ◌∷◌, ◌++◌}
+use mathlib.Core.Logic.{⊎_elim}
 use Prim.Native.Nat.{ℕ, zero, suc, ◌+◌, ◌-◌, ◌*◌, ◌≤◌, ◌<◌, ◌^◌}
 use native.Mathlib.Numerals.{add-one}
 use native.Mathlib.Omega.{arith}
 use native.Mathlib.Nat.{pow-suc, pow-le-pow_right}
 use lib.ListN.{length, get_or, take}
-use lib.Seq.{take-suc, take-length}
+use lib.Seq.{take-suc, take-length, take-take, get_or-take, length-take-le}
 use borrow.Author.Count.{below_more, below_none}
-use borrow.Author.Tests.{not-true}
+use borrow.Author.Tests.{not-true, lt-leb, le-leb}
 use Rattle.ground.specs.Judging.{outside}
-use Rattle.ground.proofs.Bools.{and_parts, and_both}
+use Rattle.std.specs.Char.{is_ascii_digit}
+use Rattle.ground.proofs.Bools.{and_parts, and_both, lt_or_ge}
 use Rattle.ground.proofs.Minimum.{none_has, some_at, some_none}
-use Rattle.ground.proofs.Faults.{inside, within}
+use Rattle.ground.proofs.Faults.{below, above, inside, within}
 use Rattle.text.specs.Decimal.{max_digits, naught, nine, is_other, all_digits, leading_zero, is_decimal, value_from, value}
 use Rattle.text.specs.Steps.{Counted, InFront}
 
@@ -29,6 +31,18 @@ pub record Spelt (k : ℕ) (bs : List ℕ) : Type 0 where
 
 abbrev pub Decimal : List ℕ → Type 0
 Decimal bs = Spelt max_digits bs
+
+-- `is_other` is the library's test, turned round
+other_digit : (b : ℕ) → is_other b ≡ not (is_ascii_digit b)
+unfolding is_other
+other_digit b =
+    ⊎_elim (λ h. rw (below naught nine b h, lt-leb naught b h))
+    (λ h. ⊎_elim (λ l. rw (above naught nine b l, lt-leb b nine l, and-false))
+    (λ l. rw (inside naught nine b h l, le-leb naught b h, le-leb b nine l)) (lt_or_ge nine b)) (lt_or_ge b naught)
+
+-- what the test told
+pub told_other : (b : ℕ) {r t : Bool} → r ≡ is_ascii_digit b → r ≡ t → is_other b ≡ not t
+told_other b e f = other_digit b ∙ ap not (sym e ∙ f)
 
 pub digit : (b : ℕ) → is_other b ≡ false → (naught ≤ b) × (b ≤ nine)
 unfolding is_other
@@ -85,6 +99,23 @@ module _ (bs : List ℕ) where
       digits = below_more _ i w.digits d;
       so_far = rw (add-one, w.so_far) (sym (value_more i l));
     }
+
+  -- of the first k bytes, as many as there are up to 8, the first d are digits, and the next is none
+  pub in_front : (k d v : ℕ) → k ≤ length bs → k ≤ max_digits → (k < max_digits → k ≡ length bs) → Counted (take k bs) d v
+      → (d < k → is_other (get_or (take k bs) d 0) ≡ true) → InFront bs d v
+  in_front k d v l few all w other =
+      let low : d ≤ k = omega (arith, w.inside, length-take-le k bs l) in
+      record {
+        counted = record {
+          inside = omega arith;
+          digits = λ j h. ap is_other (sym (get_or-take k bs j 0 (omega arith))) ∙ w.digits j h;
+          so_far = w.so_far ∙ ap value (take-take d k bs low);
+        };
+        few = omega arith;
+        no_more = λ h m.
+            let b : d < k = ⊎_elim (λ n. omega (arith, all n)) (λ n. omega arith) (lt_or_ge k max_digits) in
+            ap is_other (sym (get_or-take k bs d 0 b)) ∙ other b;
+      }
 
   -- the digits in front decide whether all are
   module _ (d v : ℕ) (w : InFront bs d v) where

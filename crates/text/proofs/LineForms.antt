@@ -7,6 +7,7 @@ use Prim.Native.Nat.{ℕ, suc, ◌+◌, ◌-◌, ◌≤◌, ◌<◌}
 use native.Mathlib.Numerals.{add-one}
 use native.Mathlib.Omega.{arith}
 use lib.Dec.{ltb, leb, eqb}
+use Rattle.std.specs.Prelude.{Some, None}
 use lib.ListN.{length, take, drop, drop_of_length-le}
 use borrow.Author.Tests.{eq-eqb, ne_eqb}
 use Rattle.ground.specs.Judging.{Cause, when, first}
@@ -26,11 +27,7 @@ use Rattle.text.specs.Decimal.{max_digits, is_decimal, value}
 use Rattle.text.specs.Faults.{first_part, second_part, is_pair, link_of, is_last, count_part, placed_at, pair_faults, row_faults}
 use Rattle.text.specs.Faults.{last_faults}
 use Rattle.text.specs.Steps.{number_says, numbers_say, pair_says, delay_says, row_says, last_says}
-use Rattle.text.specs.declared.decimal.Number.TheVariants.{Is, Not as NoNumber}
-use Rattle.text.specs.declared.judge.Numbers.TheVariants.{Are, Not}
-use Rattle.text.specs.declared.judge.Head.TheVariants.{Rows, Wrong as WrongHead}
-use Rattle.text.specs.declared.judge.Line.{Line}
-use Rattle.text.specs.declared.judge.Line.TheVariants.{Last, Wrong}
+use Rattle.text.specs.Steps.{Rows, WrongHead, LineSaid, Last, Wrong}
 
 no_number : is_decimal [] ≡ false
 unfolding is_decimal
@@ -67,11 +64,11 @@ not_chosen true f e = absurd (f e)
 not_chosen false f e = (refl, e)
 
 -- what is read of a number
-number : (bs : List ℕ) (v : ℕ) → Is v ≡ number_says bs → (is_decimal bs ≡ true) × (v ≡ value bs)
+number : (bs : List ℕ) (v : ℕ) → Some v ≡ number_says bs → (is_decimal bs ≡ true) × (v ≡ value bs)
 unfolding number_says
 number bs v e = let w = chosen (is_decimal bs) (λ f. never cc) e in (w.0, cc w.1)
 
-none : (bs : List ℕ) → NoNumber ≡ number_says bs → is_decimal bs ≡ false
+none : (bs : List ℕ) → None ≡ number_says bs → is_decimal bs ≡ false
 unfolding number_says
 none bs e = (not_chosen (is_decimal bs) (λ f. never cc) e).0
 
@@ -86,23 +83,23 @@ module _ (l : List ℕ) (k : ℕ) (e : k ≡ seek space l) where
   unfolding second_part
   second_part_lem = tail_part l (k + 1) ∙ rw (add-one, e)
 
-  pub first_not : NoNumber ≡ number_says (take k l) → Not ≡ numbers_say l
+  pub first_not : None ≡ number_says (take k l) → None ≡ numbers_say l
   unfolding numbers_say is_pair
   first_not f = rw (none (first_part l) (rw first_part_lem at f))
 
-  pub second_not : NoNumber ≡ number_says (take (length l - (k + 1)) (drop (k + 1) l)) → Not ≡ numbers_say l
+  pub second_not : None ≡ number_says (take (length l - (k + 1)) (drop (k + 1) l)) → None ≡ numbers_say l
   unfolding numbers_say is_pair
   second_not f = rw (none (second_part l) (rw second_part_lem at f), and-false)
 
-  pub both : (p s : ℕ) → Is p ≡ number_says (take k l) → Is s ≡ number_says (take (length l - (k + 1)) (drop (k + 1) l))
-      → Are (record { period = p; size = s }) ≡ numbers_say l
+  pub both : (p s : ℕ) → Some p ≡ number_says (take k l) → Some s ≡ number_says (take (length l - (k + 1)) (drop (k + 1) l))
+      → Some (record { period = p; size = s }) ≡ numbers_say l
   unfolding numbers_say is_pair link_of
   both p s f g =
       let a = number (first_part l) p (rw first_part_lem at f) in
       let b = number (second_part l) s (rw second_part_lem at g) in
       rw (a.0, b.0, a.1, b.1)
 
-pub no_numbers : (l : List ℕ) → length l ≤ seek space l → Not ≡ numbers_say l
+pub no_numbers : (l : List ℕ) → length l ≤ seek space l → None ≡ numbers_say l
 unfolding numbers_say
 no_numbers l h = rw (no_space l h)
 
@@ -122,21 +119,21 @@ placed at (c ∷ cs) = go c.applies (placed at cs)
     go false e = e
 
 -- what is read of line two
-pair : (l : List ℕ) (k : Link) → Are k ≡ numbers_say l → (is_pair l ≡ true) × (k ≡ link_of l)
+pair : (l : List ℕ) (k : Link) → Some k ≡ numbers_say l → (is_pair l ≡ true) × (k ≡ link_of l)
 unfolding numbers_say
 pair l k e = let w = chosen (is_pair l) (λ f. never cc) e in (w.0, cc w.1)
 
-no_pair : (l : List ℕ) → Not ≡ numbers_say l → is_pair l ≡ false
+no_pair : (l : List ℕ) → None ≡ numbers_say l → is_pair l ≡ false
 unfolding numbers_say
 no_pair l e = (not_chosen (is_pair l) (λ f. never cc) e).0
 
 -- line two: its form, then the values of the link at this place
 module _ (l : List ℕ) (at next : ℕ) where
-  pub pair_wrong : Not ≡ numbers_say l → WrongHead bad_line at ≡ pair_says l at next
+  pub pair_wrong : None ≡ numbers_say l → WrongHead bad_line at ≡ pair_says l at next
   unfolding pair_faults
   pair_wrong e = refused WrongHead _ (sym (hit _ _ bad_line at (ap not (no_pair l e))))
 
-  module _ (k : Link) (e : Are k ≡ numbers_say l) where
+  module _ (k : Link) (e : Some k ≡ numbers_say l) where
     pair_judged : (j : Judged) → j ≡ first (link_faults k) → first (pair_faults l at) ≡ moved at j
     unfolding pair_faults
     pair_judged j f =
@@ -151,12 +148,12 @@ module _ (l : List ℕ) (at next : ℕ) where
 
 -- a row behind n others: its form, its value, and how many came
 module _ (n : ℕ) (l : List ℕ) (at next : ℕ) where
-  pub row_form : NoNumber ≡ number_says l → Wrong bad_line at ≡ row_says n l at next
+  pub row_form : None ≡ number_says l → Wrong bad_line at ≡ row_says n l at next
   unfolding row_faults
   row_form e = refused Wrong _ (sym (hit _ _ bad_line at (ap not (none l e))))
 
   -- a number is judged by its value
-  pub row_value : (v : ℕ) (r : Line) → Is v ≡ number_says l → r ≡ delay_says n v at next → r ≡ row_says n l at next
+  pub row_value : (v : ℕ) (r : LineSaid) → Some v ≡ number_says l → r ≡ delay_says n v at next → r ≡ row_says n l at next
   unfolding row_faults
   row_value v r e f =
       let w = number l v e in
@@ -166,11 +163,11 @@ module _ (n : ℕ) (l : List ℕ) (at next : ℕ) where
 
 -- the last line behind n rows: its form, a row before it, and its count
 module _ (n : ℕ) (l : List ℕ) (at next : ℕ) where
-  pub last_form : NoNumber ≡ number_says (take (length l - 4) (drop 4 l)) → Wrong bad_line at ≡ last_says n l at next
+  pub last_form : None ≡ number_says (take (length l - 4) (drop 4 l)) → Wrong bad_line at ≡ last_says n l at next
   unfolding last_faults
   last_form e = refused Wrong _ (sym (hit _ _ bad_line at (ap not (none (count_part l) (rw (count_part_lem l) at e)))))
 
-  module _ (v : ℕ) (e : Is v ≡ number_says (take (length l - 4) (drop 4 l))) where
+  module _ (v : ℕ) (e : Some v ≡ number_says (take (length l - 4) (drop 4 l))) where
     last_judged : (j : Judged) → j ≡ first (when (eqb n 0) bad_rows at ∷ when (not (eqb v n)) bad_count at ∷ [])
         → first (last_faults n l at) ≡ j
     unfolding last_faults

@@ -1,30 +1,29 @@
 -- A line that is a number, told by its digits and the byte 10 behind them. Assumes nothing.
-use mathlib.Core.Path.{◌≡◌, sym, ap, ◌∙◌}
+use mathlib.Core.Path.{◌≡◌, ap, ◌∙◌}
 use mathlib.Core.Bool.{true}
 use mathlib.Core.List.{List}
 use Prim.Native.Nat.{ℕ, ◌+◌, ◌-◌, ◌<◌}
 use native.Mathlib.Omega.{arith}
 use lib.Dec.{eqb}
+use Rattle.std.specs.Prelude.{Some}
 use lib.ListN.{length, get_or, take, drop, length-drop}
 use lib.Seq.{length-take-le, get_or-take, get_or-drop}
-use borrow.Author.Tests.{eq-eqb, ne_eqb, lt-leb}
+use borrow.Author.Tests.{eq-eqb, ne_eqb}
 use Rattle.ground.proofs.Filling.{tail_part}
 use Rattle.ground.proofs.Minimum.{least_at}
 use Rattle.text.specs.Bytes.{newline, seek}
 use Rattle.text.specs.Decimal.{is_decimal}
-use Rattle.text.specs.Steps.{Counted, InFront, NumberLine, number_says, delay_says, line_says}
-use Rattle.text.specs.declared.decimal.Number.TheVariants.{Is}
-use Rattle.text.specs.declared.judge.Line.{Line}
+use Rattle.text.specs.Steps.{Counted, InFront, NumberLine, LineAt, number_says, delay_says, line_says, LineSaid}
 use Rattle.text.proofs.Decimals.{digit, is_decimal_lem}
 use Rattle.text.proofs.Forms.{row_not_last}
-use Rattle.text.proofs.Lined.{row_answer}
+use Rattle.text.proofs.Lined.{line_there, row_answer}
 use Rattle.text.proofs.LineForms.{row_value}
 
 -- d digits, and byte 10 behind them
 module _ (y : List ℕ) (d v : ℕ) (w : Counted y d v) where
-  line_there : d < length y → get_or y d 0 ≡ newline → seek newline y ≡ d
+  ends_there : d < length y → get_or y d 0 ≡ newline → seek newline y ≡ d
   unfolding seek
-  line_there l e =
+  ends_there l e =
       least_at (λ i. eqb (get_or y i 0) newline) (length y) d w.inside
       (λ i h. ne_eqb (get_or y i 0) newline (λ f. let b = digit (get_or y i 0) (w.digits i h) in omega (arith, f, b))) (λ _. eq-eqb _ _ e)
 
@@ -32,10 +31,10 @@ module _ (x : List ℕ) (at d v : ℕ) (w : InFront (take (length x - at) (drop 
   counted : Counted (drop at x) d v
   counted = rw (tail_part x at) at w.counted
 
-  behind : at + d ≡ at + seek newline (drop at x)
-  behind =
+  there : LineAt x at (take (at + d - at) (drop at x)) at (at + d + 1)
+  there =
       let l : d < length (drop at x) = omega (arith, length-drop at x, n.inside) in
-      ap (λ (k : ℕ). at + k) (sym (line_there (drop at x) d v counted l (get_or-drop at x d 0 ∙ n.ends)))
+      line_there x at d (ends_there (drop at x) d v counted l (get_or-drop at x d 0 ∙ n.ends)) l
 
   -- the line, as the code takes it
   as_long : length (take (at + d - at) (drop at x)) ≡ d
@@ -52,11 +51,11 @@ module _ (x : List ℕ) (at d v : ℕ) (w : InFront (take (length x - at) (drop 
       })
 
   -- its number, and so the row
-  says_number : Is v ≡ number_says (take (at + d - at) (drop at x))
+  says_number : Some v ≡ number_says (take (at + d - at) (drop at x))
   unfolding number_says
-  says_number = let k : at + d - at ≡ d = omega arith in rw is_number (ap Is (rw k counted.so_far))
+  says_number = let k : at + d - at ≡ d = omega arith in rw is_number (ap Some (rw k counted.so_far))
 
-  pub number_answer : (rows : ℕ) (r : Line) → r ≡ delay_says rows v at (at + d + 1) → r ≡ line_says x at rows
+  pub number_answer : (rows : ℕ) (r : LineSaid) → r ≡ delay_says rows v at (at + d + 1) → r ≡ line_says x at rows
   number_answer rows r e =
-      row_answer x at (at + d) behind (lt-leb (length x) (at + d) n.inside) rows r (row_not_last _ is_number)
+      row_answer x at _ at (at + d + 1) there rows r (row_not_last _ is_number)
       (row_value rows _ at (at + d + 1) v r says_number e)

@@ -19,12 +19,11 @@ use Rattle.link.specs.Refusal.{link_faults, row_faults}
 use Rattle.link.specs.declared.Link.{Link}
 use Rattle.link.proofs.Accepted.{fine_table}
 use Rattle.text.specs.Limits.{max_text, long_text, bytes_after}
-use Rattle.text.specs.declared.Read.TheVariants.{Table}
 use Rattle.text.specs.Bytes.{newline, space, same, title_word}
 use Rattle.text.specs.Decimal.{value}
 use Rattle.text.specs.Lines.{line}
 use Rattle.text.specs.Faults.{link_of, rows_of, text_faults, end_of, late_faults, read_faults}
-use Rattle.text.specs.Answer.{refusing, said, table_link, delays_of, accepted, reading}
+use Rattle.text.specs.Answer.{tabling, refusing, table_link, delays_of, accepted, reading}
 use Rattle.text.specs.Writing.{digits, glue, pair_line, last_line, table_lines, text_of}
 use Rattle.text.proofs.Spelling.{digits_decimal, digits_value, digits_short}
 use Rattle.text.proofs.Finding.{same_self}
@@ -187,13 +186,13 @@ module _ (x : List ℕ) (k : Link) (ds : List ℕ) (r : ReadAs x k ds (length x)
       (pass _ _ bytes_after _ (le-ltb (end_of x) (length x) (omega (arith, r.end)))
       (pass _ _ bad_length 0 (le-ltb room (rows_of x) (omega (arith, r.rows))) fine)))
 
-  text_taken : (old : List ℕ) → gives (said (Table k (length ds))) (on_front ds old) ≡ accepted x old
-  unfolding said accepted
+  text_taken : (old : List ℕ) → gives (tabling k (length ds)) (on_front ds old) ≡ accepted x old
+  unfolding accepted
   text_taken old = rw (r.rows, r.delays, r.link)
 
 -- the text of a good table is accepted as that table, wherever the list has room
 pub text_accepted : (k : Link) (ds old : List ℕ) → GoodTable k ds → length ds ≤ length old
-    → gives (said (Table k (length ds))) (on_front ds old) ≡ reading (text_of k ds) old
+    → gives (tabling k (length ds)) (on_front ds old) ≡ reading (text_of k ds) old
 unfolding reading
 text_accepted k ds old g h =
     let r : ReadAs (text_of k ds) k ds (length (text_of k ds)) = rw append-nil at (text_behind k ds [] g) in

@@ -20,23 +20,19 @@ use Rattle.ground.proofs.Faults.{passed, fine, front_hit, front_pass, front_fine
 use Rattle.link.specs.Limits.{max_rows}
 use Rattle.link.specs.declared.Link.{Link}
 use Rattle.text.specs.Limits.{cut_line}
-use Rattle.text.specs.declared.Text.TheVariants.{Whole, Refused as Broken}
-use Rattle.text.specs.declared.judge.Head.{Head}
-use Rattle.text.specs.declared.judge.Head.TheVariants.{Rows, Wrong as WrongHead}
-use Rattle.text.specs.declared.judge.Line.{Line}
-use Rattle.text.specs.declared.judge.Line.TheVariants.{More, Last, Wrong}
 use Rattle.text.specs.Bytes.{newline, seek}
 use Rattle.text.specs.Decimal.{value}
 use Rattle.text.specs.Lines.{next_line, begin, ended_from, line, ended}
 use Rattle.text.specs.Faults.{is_last, own_faults, line_faults, lines_faults, rows_of, text_faults, end_of}
 use Rattle.text.specs.Answer.{table_link, delays_of}
-use Rattle.text.specs.TextAnswer.{refusing_text, text_said}
+use Rattle.text.specs.TextAnswer.{whole_text, refusing_text}
 use Rattle.text.specs.Steps.{faults_from, second_says, head_says, line_says, judging, Kept}
+use Rattle.text.specs.Steps.{HeadSaid, Rows, WrongHead, LineSaid, More, Last, Wrong}
 use Rattle.text.proofs.GoodLines.{row_parts}
 use Rattle.text.proofs.Values.{one_more_kept}
 
 -- what a line behind line two says: its faults j, whether it is the last, its value and the place behind it
-unfoldable saying : Judged → Bool → ℕ → ℕ → Line
+unfoldable saying : Judged → Bool → ℕ → ℕ → LineSaid
 saying j b v next = unless Wrong j (cond b (Last next) (More v next))
 
 wrong_told : (j : Judged) (b : Bool) (v next n p : ℕ) → Wrong n p ≡ saying j b v next → j ≡ Fault n p
@@ -91,8 +87,9 @@ module _ (x : List ℕ) where
   row_low n e f = (row_parts n _ _ (rw f at (own_fine (suc (suc n)) e))).1
 
   -- a fault of the first k lines, none of which is behind the last
-  stopped : (k n p : ℕ) (kept : List ℕ) → k ≤ suc (suc (suc (rows_of x))) → first (lines_faults x k) ≡ Fault n p → Kept x (Broken n p) kept
-  unfolding judging text_said text_faults
+  stopped : (k n p : ℕ) (kept : List ℕ) → k ≤ suc (suc (suc (rows_of x))) → first (lines_faults x k) ≡ Fault n p
+      → Kept x (refusing_text n p) kept
+  unfolding judging text_faults
   stopped k n p kept l e =
       let t = stays k (suc (suc (suc (rows_of x)))) n p l e in
       record { answer = refused refusing_text _ t; delays = λ h. never (cc (sym t ∙ h)) }
@@ -107,13 +104,13 @@ module _ (x : List ℕ) where
   head_wrong n p e = refused WrongHead _ (stays 1 2 n p (omega arith) (line_one (Fault n p) e))
 
   -- or line two does
-  pub head_second : (at : ℕ) (r : Head) → first (faults_from x 0 0) ≡ Fine → at ≡ next_line x 0 → r ≡ second_says x at → r ≡ head_says x
+  pub head_second : (at : ℕ) (r : HeadSaid) → first (faults_from x 0 0) ≡ Fine → at ≡ next_line x 0 → r ≡ second_says x at → r ≡ head_says x
   unfolding head_says second_says lines_faults line_faults faults_from begin
   head_second at r e f g =
       let h = front_pass (lines_faults x 1) (line_faults x 1) _ (line_one Fine e) refl in
       rw (← h) (rw f at g)
 
-  pub head_broken : (n p : ℕ) (kept : List ℕ) → WrongHead n p ≡ head_says x → Kept x (Broken n p) kept
+  pub head_broken : (n p : ℕ) (kept : List ℕ) → WrongHead n p ≡ head_says x → Kept x (refusing_text n p) kept
   unfolding head_says
   head_broken n p kept e = stopped 2 n p kept (omega arith) (head_told (first (lines_faults x 2)) (table_link x) (begin x 2) n p e)
 
@@ -151,7 +148,7 @@ module _ (x : List ℕ) (k : Link) (from : ℕ) (e : Rows k from ≡ head_says x
       }
 
 module _ (x kept : List ℕ) (at n : ℕ) (w : Walked x kept at n) where
-  says_line : (r : Line) → r ≡ line_says x at n
+  says_line : (r : LineSaid) → r ≡ line_says x at n
       → r ≡ saying (first (line_faults x (suc (suc n)))) (is_last (line x (suc (suc n)))) (value (line x (suc (suc n))))
       (begin x (suc (suc (suc n))))
   unfolding saying line_says line_faults faults_from begin
@@ -163,7 +160,7 @@ module _ (x kept : List ℕ) (at n : ℕ) (w : Walked x kept at n) where
   low = ⊎_elim (λ h. clash ((least_is (λ i. is_last (line x (suc (suc i)))) (suc max_rows)).here (omega (arith, w.few)))
       (w.rows (rows_of x) h)) (λ h. h) (lt_or_ge (rows_of x) n)
 
-  pub broken : (m p : ℕ) → Wrong m p ≡ line_says x at n → Kept x (Broken m p) kept
+  pub broken : (m p : ℕ) → Wrong m p ≡ line_says x at n → Kept x (refusing_text m p) kept
   unfolding lines_faults
   broken m p e =
       let f = wrong_told _ _ _ _ m p (says_line _ e) in
@@ -175,8 +172,8 @@ module _ (x kept : List ℕ) (at n : ℕ) (w : Walked x kept at n) where
     row = more_told _ _ _ _ d m (says_line _ e)
 
     -- there is room for its delay
-    pub row_room : n < length kept
-    row_room = rw w.room (row_low x n row.0 row.1)
+    pub row_few : n < max_rows
+    row_few = row_low x n row.0 row.1
 
     pub next : Walked x (set kept n d) m (n + 1)
     unfolding lines_faults
@@ -187,13 +184,13 @@ module _ (x kept : List ℕ) (at n : ℕ) (w : Walked x kept at n) where
           inside = rw row.2 (ended_low x (suc (suc n)) (not_cut x (suc (suc n)) row.0));
           right = sym (front_pass _ (line_faults x (suc (suc n))) Fine w.right (sym row.0));
           rows = λ i l. below_more _ n w.rows row.1 i (omega arith);
-          few = row_low x n row.0 row.1;
+          few = row_few;
           room = length-set kept n d ∙ w.room;
-          delays = one_more_kept x kept n d row_room w.delays row.3;
+          delays = one_more_kept x kept n d (omega (arith, w.room, row_few)) w.delays row.3;
         })
 
-  pub whole : (k : Link) (m : ℕ) → k ≡ table_link x → Last m ≡ line_says x at n → Kept x (Whole k n m) kept
-  unfolding lines_faults rows_of judging text_said text_faults end_of
+  pub whole : (k : Link) (m : ℕ) → k ≡ table_link x → Last m ≡ line_says x at n → Kept x (whole_text k n m) kept
+  unfolding lines_faults rows_of judging text_faults end_of
   whole k m z e =
       let f = last_told _ _ _ _ m (says_line _ e) in
       let r : rows_of x ≡ n = least_at _ (suc max_rows) n (omega (arith, w.few)) w.rows (λ _. f.1) in

@@ -1,15 +1,16 @@
 -- What `read_table` answers of a text x, and what it leaves in the lent list.
-use Rattle.std.specs.Prelude.{List, [], ◌∷◌, ◌++◌, ℕ, zero, suc, length}
+use Rattle.std.specs.Prelude.{List, [], ◌∷◌, ◌++◌, ℕ, zero, suc, length, Result, Ok, Err}
 use Rattle.ground.specs.Judging.{first}
 use Rattle.ground.specs.Lent.{on_front}
 use Rattle.ground.specs.Protocol.{Outcome, gives, keeping, unless}
+use Rattle.ground.specs.Refusals.{number_of}
+use Rattle.ground.specs.declared.Fault.{Fault}
 use Rattle.link.specs.Range.{no_link}
 use Rattle.link.specs.declared.Link.{Link}
 use Rattle.text.specs.Decimal.{value}
 use Rattle.text.specs.Lines.{line}
 use Rattle.text.specs.Faults.{link_of, rows_of, read_faults}
-use Rattle.text.specs.declared.Read.{Read}
-use Rattle.text.specs.declared.Read.TheVariants.{Table, Refused}
+use Rattle.text.specs.declared.Table.{Table}
 
 -- a table, or a refusal
 pub data Verdict : Type 0 where
@@ -30,9 +31,9 @@ tabling k n = record { verdict = table; number = 0; place = 0; link = k; rows = 
 abbrev pub refusing : ℕ → ℕ → Said
 refusing n p = record { verdict = refusal; number = n; place = p; link = no_link; rows = 0 }
 
-unfoldable pub said : Read → Said
-said (Table k n) = tabling k n
-said (Refused n p) = refusing n p
+unfoldable pub said : Result Table Fault → Said
+said (Ok t) = tabling t.link t.rows
+said (Err f) = refusing (number_of f.refusal) f.place
 
 -- the link of line two
 abbrev pub table_link : List ℕ → Link

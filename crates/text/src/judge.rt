@@ -1,155 +1,134 @@
-// What a line says by itself, or what is wrong with it: its bytes, and the place of the first.
+// What a line says by itself, or what is wrong with it.
 ghost use Rattle.std.specs.Prelude.{◌≡◌, true};
 ghost use Rattle.ground.specs.Judging.{first};
+ghost use Rattle.ground.specs.Refusals.{judged};
 ghost use Rattle.text.specs.Faults.{is_last, title_faults};
-ghost use Rattle.text.specs.Steps.{numbers_say, pair_says, row_says, delay_says, last_says};
+ghost use Rattle.text.specs.Steps.{head_said, line_said, numbers_say, pair_says, row_says, delay_says, last_says};
 
-use crate::decimal::Number;
-use crate::limits::{BAD_COUNT, BAD_LINE, BAD_LINE_ONE};
 use crate::{bytes, decimal};
-use ground::Judged;
+use ground::{Fault, Refusal};
 use link::Link;
-use link::limits::{BAD_DELAY, BAD_ROWS, MAX_DELAY, MAX_ROWS};
+use link::limits::{MAX_DELAY, MAX_ROWS};
 
 // The length of `end` and a space.
 const END_WORD: usize = 4;
 
-// Two numbers with one space between them, or anything else.
-#[derive(Drop)]
-enum Numbers {
-    Are { link: Link },
-    Not,
+// The first two lines: the link, and where the rows begin.
+#[derive(Clone, Copy)]
+pub(crate) struct Head {
+    pub(crate) link: Link,
+    pub(crate) at: usize,
 }
 
-// The first two lines: the link, and where the rows begin; or their first fault.
+// A line behind them: a row with its delay, or the last one, and the place behind it.
 #[derive(Clone, Copy)]
-pub enum Head {
-    Rows { link: Link, at: usize },
-    Wrong { number: u32, place: usize },
-}
-
-// A line behind them: a row with its delay, or the last one, and the place behind it; or its first fault.
-#[derive(Clone, Copy)]
-pub enum Line {
+pub(crate) enum Line {
     More { delay: u32, next: usize },
     Last { next: usize },
-    Wrong { number: u32, place: usize },
 }
 
-// Line one: 2.
-pub(crate) fn title(line: &[u8], at: usize) -> Judged
-    ensures { result ≡ first (title_faults line.now at) }
-{
-    if bytes::same(b"pma 1", line) {
-        return Judged::Fine;
-    }
-    Judged::Fault {
-        number: BAD_LINE_ONE,
-        place: at,
-    }
+// A line in its text: its bytes without byte 10, the place of the first, and the place behind it.
+#[derive(Clone, Copy)]
+pub(crate) struct Placed<'a> {
+    pub(crate) bytes: &'a [u8],
+    pub(crate) at: usize,
+    pub(crate) next: usize,
 }
 
 // Two numbers with one space between them.
-fn two_numbers(line: &[u8]) -> Numbers
+fn two_numbers(line: &[u8]) -> Option<Link>
     ensures { result ≡ numbers_say line.now }
 {
-    let k = bytes::seek(line, b' ');
-    if k >= line.len() {
-        return Numbers::Not;
-    }
-    match decimal::read(&line[..k]) {
-        Number::Not => Numbers::Not,
-        Number::Is { value: period } => {
-            let from = k + 1;
-            match decimal::read(&line[from..]) {
-                Number::Not => Numbers::Not,
-                Number::Is { value: size } => Numbers::Are {
-                    link: Link { period, size },
-                },
-            }
+    let k = bytes::find(line, b' ')?;
+    let period = decimal::read(&line[..k])?;
+    let size = decimal::read(&line[k + 1..])?;
+    Some(Link { period, size })
+}
+
+impl Placed<'_> {
+    // A fault of the line is at its first byte.
+    fn fault(self, refusal: Refusal) -> Fault
+        ensures { (result.refusal ≡ refusal) × (result.place ≡ self.entry.at) }
+    {
+        Fault {
+            refusal,
+            place: self.at,
         }
     }
-}
 
-// Line two, behind which `next` is the place: 4, 5, 6.
-pub(crate) fn line_two(line: &[u8], at: usize, next: usize) -> Head
-    ensures { result ≡ pair_says line.now at next }
-{
-    match two_numbers(line) {
-        Numbers::Not => Head::Wrong {
-            number: BAD_LINE,
-            place: at,
-        },
-        Numbers::Are { link } => match link::judge::link_values(link) {
-            Judged::Fault { number, place: _ } => Head::Wrong { number, place: at },
-            Judged::Fine => Head::Rows { link, at: next },
-        },
-    }
-}
-
-// A line that begins with `end` and a space is the last one.
-pub(crate) fn is_last(line: &[u8]) -> bool
-    ensures { result ≡ is_last line.now }
-{
-    ground::begins(b"end ", line)
-}
-
-// A row behind so many others: 4, 7, 8.
-pub(crate) fn row_line(line: &[u8], at: usize, rows: usize, next: usize) -> Line
-    ensures { result ≡ row_says rows line.now at next }
-{
-    match decimal::read(line) {
-        Number::Not => Line::Wrong {
-            number: BAD_LINE,
-            place: at,
-        },
-        Number::Is { value } => delay_line(value, at, rows, next),
-    }
-}
-
-// A row whose number is read: 7, 8.
-pub(crate) fn delay_line(delay: u32, at: usize, rows: usize, next: usize) -> Line
-    ensures { result ≡ delay_says rows delay at next }
-{
-    if delay > MAX_DELAY {
-        return Line::Wrong {
-            number: BAD_DELAY,
-            place: at,
-        };
-    }
-    if rows >= MAX_ROWS {
-        return Line::Wrong {
-            number: BAD_ROWS,
-            place: at,
-        };
-    }
-    Line::More { delay, next }
-}
-
-// The last line, behind so many rows: 4, 8, 9.
-pub(crate) fn last_line(line: &[u8], at: usize, rows: usize, next: usize) -> Line
-    requires { is_last line.now ≡ true }
-    ensures { result ≡ last_says rows line.now at next }
-{
-    match decimal::read(&line[END_WORD..]) {
-        Number::Not => Line::Wrong {
-            number: BAD_LINE,
-            place: at,
-        },
-        Number::Is { value } => {
-            if rows == 0 {
-                return Line::Wrong {
-                    number: BAD_ROWS,
-                    place: at,
-                };
-            }
-            if value as usize != rows {
-                return Line::Wrong {
-                    number: BAD_COUNT,
-                    place: at,
-                };
-            }
-            Line::Last { next }
+    // Line one: 2.
+    pub(crate) fn title(self) -> Result<(), Fault>
+        ensures { judged result ≡ first (title_faults self.entry.bytes.now self.entry.at) }
+    {
+        if self.bytes != b"pma 1".as_slice() {
+            return Err(self.fault(Refusal::BadLineOne));
         }
+        Ok(())
+    }
+
+    // Line two: 4, 5, 6.
+    pub(crate) fn pair(self) -> Result<Head, Fault>
+        ensures { head_said result ≡ pair_says self.entry.bytes.now self.entry.at self.entry.next }
+    {
+        let Some(link) = two_numbers(self.bytes) else {
+            return Err(self.fault(Refusal::BadLine));
+        };
+        match link::judge::link_values(link) {
+            Ok(_) => Ok(Head {
+                link,
+                at: self.next,
+            }),
+            Err(fault) => Err(self.fault(fault.refusal)),
+        }
+    }
+
+    // A line that begins with `end` and a space is the last one.
+    pub(crate) fn is_last(self) -> bool
+        ensures { result ≡ is_last self.entry.bytes.now }
+    {
+        ground::begins(b"end ", self.bytes)
+    }
+
+    // A row behind so many others: 4, 7, 8.
+    pub(crate) fn row(self, rows: usize) -> Result<Line, Fault>
+        ensures { line_said result ≡ row_says rows self.entry.bytes.now self.entry.at self.entry.next }
+    {
+        let Some(delay) = decimal::read(self.bytes) else {
+            return Err(self.fault(Refusal::BadLine));
+        };
+        self.delay(delay, rows)
+    }
+
+    // A row whose number is read: 7, 8.
+    pub(crate) fn delay(self, delay: u32, rows: usize) -> Result<Line, Fault>
+        ensures { line_said result ≡ delay_says rows delay self.entry.at self.entry.next }
+    {
+        if delay > MAX_DELAY {
+            return Err(self.fault(Refusal::BadDelay));
+        }
+        if rows >= MAX_ROWS {
+            return Err(self.fault(Refusal::BadRows));
+        }
+        Ok(Line::More {
+            delay,
+            next: self.next,
+        })
+    }
+
+    // The last line, behind so many rows: 4, 8, 9.
+    pub(crate) fn last(self, rows: usize) -> Result<Line, Fault>
+        requires { is_last self.bytes.now ≡ true }
+        ensures { line_said result ≡ last_says rows self.entry.bytes.now self.entry.at self.entry.next }
+    {
+        let Some(count) = decimal::read(&self.bytes[END_WORD..]) else {
+            return Err(self.fault(Refusal::BadLine));
+        };
+        if rows == 0 {
+            return Err(self.fault(Refusal::BadRows));
+        }
+        if count as usize != rows {
+            return Err(self.fault(Refusal::BadCount));
+        }
+        Ok(Line::Last { next: self.next })
     }
 }

@@ -6,110 +6,94 @@ mod decimal;
 mod judge;
 pub mod limits;
 
-ghost use Rattle.std.specs.Prelude.{◌≡◌, true, ◌≤◌, ◌+◌, leb, length, drop};
+ghost use Rattle.std.specs.Prelude.{◌≡◌, true, ◌≤◌, length, IfOk, IfErr};
 ghost use Rattle.ground.specs.Protocol.{gives};
-ghost use Rattle.link.specs.Limits.{max_rows};
-ghost use Rattle.text.specs.Bytes.{newline, seek};
 ghost use Rattle.text.specs.Answer.{said, reading};
 ghost use Rattle.text.specs.TextAnswer.{text_said, reading_text};
-ghost use Rattle.text.specs.Steps.{head_says, second_says, line_says, NumberLine, Kept};
-ghost use Rattle.text.specs.declared.judge.Head.TheVariants.{Rows};
+ghost use Rattle.text.specs.Steps.{head_said, line_said, head_says, second_says, line_says, NumberLine, LineAt, CutAt, Kept, Rows};
 
-use crate::judge::{Head, Line};
-use crate::limits::{BYTES_AFTER, CUT_LINE, LONG_TEXT, MAX_TEXT};
-use ground::Judged;
+use crate::judge::{Head, Line, Placed};
+use crate::limits::MAX_TEXT;
+use ground::{Fault, Refusal};
 use link::Link;
-use link::limits::{BAD_LENGTH, MAX_ROWS};
+use link::limits::MAX_ROWS;
 
-// What the text says: its table, or the first fault.
-#[derive(Clone, Copy)]
-pub enum Read {
-    Table { link: Link, rows: usize },
-    Refused { number: u32, place: usize },
+// What a text says: its link and the number of its rows.
+#[derive(Clone, Copy, Debug, PartialEq, Eq)]
+pub struct Table {
+    pub link: Link,
+    pub rows: usize,
 }
 
 // The same for a text that may have bytes behind it: its table, and the place behind its last line.
-#[derive(Clone, Copy)]
-pub enum Text {
-    Whole { link: Link, rows: usize, end: usize },
-    Refused { number: u32, place: usize },
+#[derive(Clone, Copy, Debug, PartialEq, Eq)]
+pub struct Text {
+    pub link: Link,
+    pub rows: usize,
+    pub end: usize,
 }
 
 // A text and nothing behind it: 1, the faults of its lines, 10, 11; or its table, with the delays in the front of the list.
-pub fn read_table(text: &[u8], delays: &mut [u32]) -> Read
+pub fn read_table(text: &[u8], delays: &mut [u32]) -> Result<Table, Fault>
     ensures { gives (said result) delays.new ≡ reading text.now delays.old }
 {
     if text.len() > MAX_TEXT {
-        return Read::Refused {
-            number: LONG_TEXT,
+        return Err(Fault {
+            refusal: Refusal::LongText,
             place: 0,
-        };
+        });
     }
     let mut kept = [0u32; MAX_ROWS];
-    match read_lines(text, &mut kept) {
-        Text::Refused { number, place } => Read::Refused { number, place },
-        Text::Whole { link, rows, end } => {
-            if end < text.len() {
-                return Read::Refused {
-                    number: BYTES_AFTER,
-                    place: end,
-                };
-            }
-            if delays.len() < rows {
-                return Read::Refused {
-                    number: BAD_LENGTH,
-                    place: 0,
-                };
-            }
-            ground::copy_out(&kept[..rows], delays);
-            Read::Table { link, rows }
-        }
+    let Text { link, rows, end } = read_lines(text, &mut kept)?;
+    if end < text.len() {
+        return Err(Fault {
+            refusal: Refusal::BytesAfter,
+            place: end,
+        });
     }
+    if delays.len() < rows {
+        return Err(Fault {
+            refusal: Refusal::BadLength,
+            place: 0,
+        });
+    }
+    ground::copy_out(&kept[..rows], delays);
+    Ok(Table { link, rows })
 }
 
 // A text that may have bytes behind it: the first fault of its lines; or its table, with the delays in the front of the list.
-pub fn read_text(text: &[u8], delays: &mut [u32; MAX_ROWS]) -> Text
+pub fn read_text(text: &[u8], delays: &mut [u32; MAX_ROWS]) -> Result<Text, Fault>
     ensures { gives (text_said result) delays.new ≡ reading_text text.now delays.old }
 {
     let mut kept = [0u32; MAX_ROWS];
-    match read_lines(text, &mut kept) {
-        Text::Refused { number, place } => Text::Refused { number, place },
-        Text::Whole { link, rows, end } => {
-            ground::copy_out(&kept[..rows], delays);
-            Text::Whole { link, rows, end }
-        }
-    }
+    let whole = read_lines(text, &mut kept)?;
+    ground::copy_out(&kept[..whole.rows], delays);
+    Ok(whole)
 }
 
 // The lines from the start, up to the last one or the first fault. The delays are kept as they come.
-fn read_lines(text: &[u8], kept: &mut [u32]) -> Text
-    requires { length kept.old ≡ max_rows }
-    ensures { Kept text.now result kept.new }
+fn read_lines(text: &[u8], kept: &mut [u32; MAX_ROWS]) -> Result<Text, Fault>
+    ensures { Kept text.now (text_said result) kept.new }
 {
-    match first_lines(text) {
-        Head::Wrong { number, place } => Text::Refused { number, place },
-        Head::Rows { link, at } => read_rows(text, link, at, kept),
-    }
+    let head = first_lines(text)?;
+    read_rows(text, head, kept)
 }
 
-// The lines behind line two, the first of which begins at `from`.
-fn read_rows(text: &[u8], link: Link, from: usize, kept: &mut [u32]) -> Text
-    requires { (Rows link from ≡ head_says text.now) × (length kept.old ≡ max_rows) }
-    ensures { Kept text.now result kept.new }
+// The lines behind line two, the first of which begins at `head.at`.
+fn read_rows(text: &[u8], head: Head, kept: &mut [u32; MAX_ROWS]) -> Result<Text, Fault>
+    requires { Rows head.link head.at ≡ head_says text.now }
+    ensures { Kept text.now (text_said result) kept.new }
 {
-    let mut at = from;
+    let mut at = head.at;
     let mut rows: usize = 0;
     loop {
-        match next_line(text, at, rows) {
-            Line::Wrong { number, place } => {
-                return Text::Refused { number, place };
-            }
+        match next_line(text, at, rows)? {
             Line::Last { next } => {
-                return Text::Whole {
-                    link,
+                return Ok(Text {
+                    link: head.link,
                     rows,
                     end: next,
-                };
+                });
             }
             Line::More { delay, next } => {
                 kept[rows] = delay;
@@ -120,62 +104,57 @@ fn read_rows(text: &[u8], link: Link, from: usize, kept: &mut [u32]) -> Text
     }
 }
 
-// Where the line from `at` ends: its byte 10, or the end of the text.
-fn line_end(text: &[u8], at: usize) -> usize
+// The line that begins at `at`, up to its byte 10. Where the text ends before it: 3.
+fn line_at(text: &[u8], at: usize) -> Result<Placed<'_>, Fault>
     requires { at ≤ length text.now }
-    ensures { (result ≡ at + seek newline (drop at text.now)) × (result ≤ length text.now) }
+    ensures whole { IfOk result (λ line. LineAt text.now at line.bytes.now line.at line.next) }
+    ensures cut { IfErr result (λ fault. CutAt text.now at fault) }
 {
-    at + bytes::seek(&text[at..], b'\n')
-}
-
-// The text ends before the line does: 3.
-fn is_cut(text: &[u8], end: usize) -> bool
-    ensures { result ≡ leb (length text.now) end }
-{
-    end >= text.len()
+    let Some(size) = bytes::find(&text[at..], b'\n') else {
+        return Err(Fault {
+            refusal: Refusal::CutLine,
+            place: at,
+        });
+    };
+    let end = at + size;
+    Ok(Placed {
+        bytes: &text[at..end],
+        at,
+        next: end + 1,
+    })
 }
 
 // Lines one and two: 3, 2, 3, 4, 5, 6.
-fn first_lines(text: &[u8]) -> Head
-    ensures { result ≡ head_says text.now }
+fn first_lines(text: &[u8]) -> Result<Head, Fault>
+    ensures { head_said result ≡ head_says text.now }
 {
-    let end = line_end(text, 0);
-    if is_cut(text, end) {
-        return Head::Wrong {
-            number: CUT_LINE,
-            place: 0,
-        };
-    }
-    match judge::title(&text[..end], 0) {
-        Judged::Fault { number, place } => Head::Wrong { number, place },
-        Judged::Fine => second(text, end + 1),
-    }
+    let line = line_at(text, 0)?;
+    line.title()?;
+    second(text, line.next)
 }
 
 // Line two, which begins at `at`: 3, 4, 5, 6.
-fn second(text: &[u8], at: usize) -> Head
+fn second(text: &[u8], at: usize) -> Result<Head, Fault>
     requires { at ≤ length text.now }
-    ensures { result ≡ second_says text.now at }
+    ensures { head_said result ≡ second_says text.now at }
 {
-    let end = line_end(text, at);
-    if is_cut(text, end) {
-        return Head::Wrong {
-            number: CUT_LINE,
-            place: at,
-        };
-    }
-    judge::line_two(&text[at..end], at, end + 1)
+    line_at(text, at)?.pair()
 }
 
 // A line behind so many rows, which begins at `at`. Nearly all are a number and byte 10, which one look at each byte tells.
-fn next_line(text: &[u8], at: usize, rows: usize) -> Line
+fn next_line(text: &[u8], at: usize, rows: usize) -> Result<Line, Fault>
     requires { at ≤ length text.now }
-    ensures { result ≡ line_says text.now at rows }
+    ensures { line_said result ≡ line_says text.now at rows }
 {
     let front = decimal::digits(&text[at..]);
     let end = at + front.digits;
     if is_number(text, at, end) {
-        return judge::delay_line(front.value, at, rows, end + 1);
+        let line = Placed {
+            bytes: &text[at..end],
+            at,
+            next: end + 1,
+        };
+        return line.delay(front.value, rows);
     }
     any_line(text, at, rows)
 }
@@ -185,33 +164,17 @@ fn is_number(text: &[u8], at: usize, end: usize) -> bool
     requires { (at ≤ end) × (end ≤ length text.now) }
     ensures { result ≡ true → NumberLine text.now at end }
 {
-    if end <= at {
-        return false;
-    }
-    if is_cut(text, end) {
-        return false;
-    }
-    if text[end] != b'\n' {
-        return false;
-    }
-    !decimal::leading_zero(&text[at..end])
+    at < end && end < text.len() && text[end] == b'\n' && !decimal::leading_zero(&text[at..end])
 }
 
 // Any line behind so many rows, which begins at `at`: 3, then what is wrong with it by itself.
-fn any_line(text: &[u8], at: usize, rows: usize) -> Line
+fn any_line(text: &[u8], at: usize, rows: usize) -> Result<Line, Fault>
     requires { at ≤ length text.now }
-    ensures { result ≡ line_says text.now at rows }
+    ensures { line_said result ≡ line_says text.now at rows }
 {
-    let end = line_end(text, at);
-    if is_cut(text, end) {
-        return Line::Wrong {
-            number: CUT_LINE,
-            place: at,
-        };
+    let line = line_at(text, at)?;
+    if line.is_last() {
+        return line.last(rows);
     }
-    let line = &text[at..end];
-    if judge::is_last(line) {
-        return judge::last_line(line, at, rows, end + 1);
-    }
-    judge::row_line(line, at, rows, end + 1)
+    line.row(rows)
 }

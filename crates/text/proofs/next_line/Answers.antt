@@ -5,4 +5,4 @@ use Rattle.text.proofs.next_line.Goals as goal
 pub returns-then-is_number : goal.returns-then-is_number
 returns-then-is_number c =
     number_answer _ _ _ _ c.digits-front.ensures (c.is_number.ensures c.if-is_number.true) _ _
-    c.delay_line.ensures
+    c.delay.ensures

@@ -1,9 +1,12 @@
 -- The first two lines are refused, or the rows are read.
+use Rattle.std.specs.Prelude.{◌≡◌, Err}
+use borrow.Author.Rules.{rules}
+use Rattle.text.specs.TextAnswer.{text_said}
 use Rattle.text.proofs.Walk.{head_broken}
 use Rattle.text.proofs.read_lines.Goals as goal
 
-pub read_rows-requires : goal.read_rows-requires
-read_rows-requires c = (c.in-Rows.ensures, c.requires)
-
-pub returns-in-Wrong : goal.returns-in-Wrong
-returns-in-Wrong c = head_broken _ _ _ _ (c.in-Wrong.ensures)
+pub returns-in_err-head : goal.returns-in_err-head
+unfolding text_said
+returns-in_err-head c =
+    let e : c.from_residual.result ≡ Err c.in_err-head.field-0.0 = search rules in
+    rw e (head_broken _ _ _ _ (c.in_err-head.ensures))

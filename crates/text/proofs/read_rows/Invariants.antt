@@ -5,8 +5,8 @@ use Rattle.link.specs.Limits.{max_rows}
 use Rattle.text.proofs.Walk.{Walked}
 use Rattle.text.proofs.read_rows.Given as goal
 
-abbrev pub invariant-loop-number : goal.invariant-loop-number
-invariant-loop-number l = Walked l.text l.kept l.at l.rows
+abbrev pub invariant-loop-next : goal.invariant-loop-next
+invariant-loop-next l = Walked l.text l.kept l.at l.rows
 
-abbrev pub decreases-loop-number : goal.decreases-loop-number
-decreases-loop-number l = max_rows + 1 - l.rows
+abbrev pub decreases-loop-next : goal.decreases-loop-next
+decreases-loop-next l = max_rows + 1 - l.rows

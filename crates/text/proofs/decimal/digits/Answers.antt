@@ -1,45 +1,42 @@
-use mathlib.Core.Path.{sym, ◌∙◌}
+use mathlib.Core.Path.{◌≡◌}
 use native.Mathlib.Omega.{arith}
-use Rattle.text.proofs.Decimals.{none_counted, digit, counted_low, counted_more}
+use lib.ListN.{length, get_or, take}
+use lib.Seq.{length-take-le}
+use Rattle.text.proofs.Decimals.{none_counted, told_other, digit, counted_low, counted_more, in_front}
 use Rattle.text.proofs.decimal.digits.Goals as goal
 
 pub loop-digits-init : goal.loop-digits-init
-loop-digits-init c = (none_counted _, omega arith)
+loop-digits-init c = none_counted _
 
-pub returns-then-digits-ge-MAX_DIGITS : goal.returns-then-digits-ge-MAX_DIGITS
-returns-then-digits-ge-MAX_DIGITS c =
-    let w = c.loop-digits.invariant in
-    record { counted = w.0; few = w.1; no_more = λ l m. absurd (omega (arith, c.if-digits-ge-MAX_DIGITS.true)) }
-
-pub returns-then-is_other : goal.returns-then-is_other
-returns-then-is_other c =
-    let w = c.loop-digits.invariant in
-    record { counted = w.0; few = w.1; no_more = λ l m. sym c.is_other.ensures ∙ c.if-is_other.true }
+pub returns-then-not-is_ascii_digit : goal.returns-then-not-is_ascii_digit
+returns-then-not-is_ascii_digit c =
+    in_front _ c.min.result _ _ (omega arith) (omega arith) (λ l. omega arith) c.loop-digits.invariant
+    (λ l. told_other _ c.is_ascii_digit.ensures.value c.if-not-is_ascii_digit.true)
 
 pub overflow_mul-value : goal.overflow_mul-value
-overflow_mul-value c = omega (arith, counted_low _ _ _ c.loop-digits.invariant.0 c.if-digits-ge-MAX_DIGITS.false)
+overflow_mul-value c =
+    let few = length-take-le c.min.result c.args.bytes.now (omega arith) in
+    omega (arith, counted_low _ _ _ c.loop-digits.invariant (omega (arith, few)))
 
-pub overflow_sub-value : goal.overflow_sub-value
-overflow_sub-value c = (digit _ (sym c.is_other.ensures ∙ c.if-is_other.false)).0
-
-pub overflow_cast-value : goal.overflow_cast-value
-overflow_cast-value c = omega (arith, digit _ (sym c.is_other.ensures ∙ c.if-is_other.false))
+pub overflow_sub-byte : goal.overflow_sub-byte
+overflow_sub-byte c = (digit _ (told_other _ c.is_ascii_digit.ensures.value c.if-not-is_ascii_digit.false)).0
 
 pub overflow_add-value : goal.overflow_add-value
 overflow_add-value c =
-    omega (
-      arith,
-      digit _ (sym c.is_other.ensures ∙ c.if-is_other.false),
-      counted_low _ _ _ c.loop-digits.invariant.0 c.if-digits-ge-MAX_DIGITS.false,
-    )
+    let few = length-take-le c.min.result c.args.bytes.now (omega arith) in
+    let front = take c.min.result c.args.bytes.now in
+    let byte = digit (get_or front c.loop-digits.digits 0) (told_other _ c.is_ascii_digit.ensures.value c.if-not-is_ascii_digit.false) in
+    omega (arith, byte, counted_low _ _ _ c.loop-digits.invariant (omega (arith, few)))
 
 pub loop-digits-preserved : goal.loop-digits-preserved
-loop-digits-preserved c = (
-  counted_more _ _ _ c.loop-digits.invariant.0 c.loop-digits-test.true (sym c.is_other.ensures ∙ c.if-is_other.false),
-  omega (arith, c.if-digits-ge-MAX_DIGITS.false),
-)
+loop-digits-preserved c =
+    rw c.from.ensures
+    (counted_more _ _ _ c.loop-digits.invariant c.loop-digits-test.true
+    (told_other _ c.is_ascii_digit.ensures.value c.if-not-is_ascii_digit.false))
 
 pub returns : goal.returns
 returns c =
-    let w = c.loop-digits.invariant in
-    record { counted = w.0; few = w.1; no_more = λ l m. absurd (omega (arith, c.loop-digits-test.false)) }
+    let few = length-take-le c.min.result c.args.bytes.now (omega arith) in
+    let all : c.loop-digits.digits ≡ length (take c.min.result c.args.bytes.now) = omega (arith, c.loop-digits.invariant.inside) in
+    in_front _ c.min.result _ _ (omega arith) (omega arith) (λ l. omega arith) (rw all at c.loop-digits.invariant)
+    (λ l. absurd (omega (arith, few)))

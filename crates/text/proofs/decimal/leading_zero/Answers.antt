@@ -3,10 +3,10 @@ use borrow.Author.Tests.{lt-ltb, le-ltb}
 use Rattle.text.specs.Decimal.{leading_zero}
 use Rattle.text.proofs.decimal.leading_zero.Goals as goal
 
-pub returns-then-bytes-le1 : goal.returns-then-bytes-le1
+pub returns-then-bytes-gt1 : goal.returns-then-bytes-gt1
 unfolding leading_zero
-returns-then-bytes-le1 c = rw (le-ltb _ _ c.if-bytes-le1.true)
+returns-then-bytes-gt1 c = rw (lt-ltb _ _ c.if-bytes-gt1.true)
 
-pub returns : goal.returns
+pub returns-else-bytes-gt1 : goal.returns-else-bytes-gt1
 unfolding leading_zero
-returns c = rw (lt-ltb _ _ c.if-bytes-le1.false)
+returns-else-bytes-gt1 c = rw (le-ltb _ _ c.if-bytes-gt1.false)

@@ -2,22 +2,28 @@
 use mathlib.Core.Path.{sym}
 use native.Mathlib.Omega.{arith}
 use lib.Seq.{length-take-le}
+use Rattle.text.specs.Bytes.{space}
 use Rattle.text.proofs.LineForms.{no_numbers, first_not, second_not, both}
+use Rattle.text.proofs.Finding.{seek_some, seek_none}
 use Rattle.text.proofs.judge.two_numbers.Goals as goal
 
-pub returns-then-k-line : goal.returns-then-k-line
-returns-then-k-line c = no_numbers _ (omega arith)
-
 pub slice_bounds-read-end : goal.slice_bounds-read-end
-slice_bounds-read-end c = sym (length-take-le _ _ (omega arith))
+slice_bounds-read-end c = sym (length-take-le _ _ (omega (arith, seek_some space c.args.line.now c.in_ok-k.k (sym (c.in_ok-k.ensures)))))
 
-pub returns-in-Not : goal.returns-in-Not
-returns-in-Not c = first_not _ _ c.seek-k.ensures.0 (c.in-Not.ensures)
+pub returns-in_err-k : goal.returns-in_err-k
+returns-in_err-k c = rw c.from_residual.ensures (no_numbers _ (seek_none _ _ (sym (c.in_err-k.ensures))))
 
-pub returns-in-Not-read : goal.returns-in-Not-read
-returns-in-Not-read c = second_not _ _ c.seek-k.ensures.0 (c.in-Not-read.ensures)
+pub returns-in_err-period : goal.returns-in_err-period
+returns-in_err-period c =
+    let at = seek_some _ _ _ (sym (c.in_ok-k.ensures)) in
+    rw c.from_residual-in_err-period.ensures (first_not _ _ (sym at.0) (c.in_err-period.ensures))
 
-pub returns-in-Is-read : goal.returns-in-Is-read
-returns-in-Is-read c =
-    both _ _ c.seek-k.ensures.0 _ _ (c.in-Is.ensures)
-    (c.in-Is-read.ensures)
+pub returns-in_err-size : goal.returns-in_err-size
+returns-in_err-size c =
+    let at = seek_some _ _ _ (sym (c.in_ok-k.ensures)) in
+    rw c.from_residual-in_err-size.ensures (second_not _ _ (sym at.0) (c.in_err-size.ensures))
+
+pub returns : goal.returns
+returns c =
+    let at = seek_some _ _ _ (sym (c.in_ok-k.ensures)) in
+    both _ _ (sym at.0) _ _ (c.in_ok-period.ensures) (c.in_ok-size.ensures)
