@@ -72,7 +72,7 @@ struct Rows {
     count: usize,
 }
 
-// How a search ended, with the tests that are left. Three ways, so no `Option` or `Result`.
+// How a search ended, with the tests that are left: three ways, which no `Option` or `Result` has.
 #[derive(Drop)]
 enum Hunt {
     Found(u64),
@@ -158,20 +158,18 @@ impl Rows {
     {
         let mut k = from;
         while k < self.count * ROW {
-            let j = k / ROW;
-            if board[j].first < self.circle.period {
-                k = (j + 1) * ROW;
-                continue;
-            }
-            let i = k / 2 % MAX_ROWS;
-            if self.count <= i {
-                k = (j + 1) * ROW;
-                continue;
-            }
-            if board[i].first < self.circle.period {
+            let row = k / ROW;
+            let beside = k / 2 % MAX_ROWS;
+            // one test with `||` would do for the first two, but makes the search slower by a third
+            if board[row].first < self.circle.period {
+                k = (row + 1) * ROW;
+            } else if self.count <= beside {
+                k = (row + 1) * ROW;
+            } else if board[beside].first < self.circle.period {
                 return k;
+            } else {
+                k += 2 - k % 2;
             }
-            k += 2 - k % 2;
         }
         k
     }
@@ -202,20 +200,20 @@ impl Rows {
         ensures starts { Stands self.now board.new }
     {
         let rest = left - 1;
-        let j = k / ROW;
+        let row = k / ROW;
         let first = self.offset(board, k);
         let new = Start {
             first,
-            second: self.circle.turn(first, self.delays[j]),
+            second: self.circle.turn(first, self.delays[row]),
         };
         if !self.is_free(board, new) {
             return Hunt::Nothing(rest);
         }
-        let old = board[j];
-        board[j] = new;
+        let old = board[row];
+        board[row] = new;
         let hunt = self.descend(board, unplaced, rest);
         if !matches!(hunt, Hunt::Found(_)) {
-            board[j] = old;
+            board[row] = old;
         }
         hunt
     }
