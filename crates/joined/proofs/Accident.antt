@@ -20,8 +20,7 @@ use Rattle.link.specs.declared.Link.{Link}
 use Rattle.text.specs.Limits.{max_text, long_text, cut_line}
 use Rattle.text.specs.Bytes.{newline}
 use Rattle.text.specs.Faults.{text_faults, rows_of, end_of, late_faults, read_faults}
-use Rattle.text.specs.Answer.{Said, refusing, said as read_said, accepted, reading, table_link, delays_of}
-use Rattle.text.specs.declared.Read.TheVariants.{Refused}
+use Rattle.text.specs.Answer.{Said, refusing, accepted, reading, table_link, delays_of}
 use Rattle.text.specs.Writing.{glue, text_of}
 use Rattle.text.proofs.Saying.{unsaid}
 use Rattle.text.proofs.Taken.{begins_with_its_text}
@@ -75,9 +74,9 @@ some_byte a b y =
     omega (arith, ap length w.text, length-append a (newline ∷ b), length-append a b, text_long w.link w.delays)
 
 -- a short text that is refused alone with a number below 10 has that fault in its lines
-own_lines : (z old : List ℕ) (n p : ℕ) (new : List ℕ) → length z ≤ max_text → n < 10 → gives (read_said (Refused n p)) new ≡ reading z old
+own_lines : (z old : List ℕ) (n p : ℕ) (new : List ℕ) → length z ≤ max_text → n < 10 → gives (refusing n p) new ≡ reading z old
     → first (text_faults z) ≡ Fault n p
-unfolding reading read_said read_faults accepted
+unfolding reading read_faults accepted
 own_lines z old n p new short low e = judged (told (keeping refusing old) (first (read_faults z (length old))) e)
   where
     lines : (j : Judged) → first (text_faults z) ≡ j → first (and_then (text_faults z) (late_faults z (length old))) ≡ Fault n p
@@ -110,14 +109,14 @@ module _ (ts : List (List ℕ)) (z : List ℕ) (all : AllAccepted ts) where
 
   -- a text that is refused alone
   pub own_fault : (old : List ℕ) (n p : ℕ) (new : List ℕ) → length z ≤ max_text → n < 10
-      → gives (read_said (Refused n p)) new ≡ reading z old → fault_from x (begin_of x (length ts)) ≡ Fault n p
+      → gives (refusing n p) new ≡ reading z old → fault_from x (begin_of x (length ts)) ≡ Fault n p
   own_fault old n p new short low e =
       let g = own_lines z old n p new short low e in
       fault_behind ∙ rw (le-ltb max_text (length z) short, take_all max_text z short, g)
 
 -- the same with anything behind it, where its fault is in a line that ends
 pub fault_before : (ts : List (List ℕ)) (y z : List ℕ) (all : AllAccepted ts) (old : List ℕ) (n p : ℕ) (new : List ℕ)
-    → length y ≤ max_text → n < 10 → (n ≡ cut_line → ⊥) → gives (read_said (Refused n p)) new ≡ reading y old
+    → length y ≤ max_text → n < 10 → (n ≡ cut_line → ⊥) → gives (refusing n p) new ≡ reading y old
     → fault_from (joined_of ts ++ (y ++ z)) (begin_of (joined_of ts ++ (y ++ z)) (length ts)) ≡ Fault n p
 fault_before ts y z all old n p new short low other e =
     let m = max_text - length y in

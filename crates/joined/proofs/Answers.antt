@@ -1,5 +1,5 @@
 -- How the code shows what `plan_texts` answers, and what an answer tells: the call's own faults, or the run. Assumes nothing.
-use mathlib.Core.Path.{◌≡◌, refl, sym}
+use mathlib.Core.Path.{◌≡◌, refl, sym, ap}
 use mathlib.Core.Bool.{◌||◌}
 use mathlib.Core.List.{List}
 use Prim.Native.Nat.{ℕ, ◌*◌}
@@ -16,22 +16,23 @@ use Rattle.ground.proofs.Faults.{pass, passed, fine}
 use Rattle.link.specs.Limits.{max_rows, bad_length}
 use Rattle.joined.specs.Limits.{max_texts, max_joined, answer_size, long_input}
 use Rattle.joined.specs.Meaning.{Fits}
-use Rattle.joined.specs.declared.Run.{Run}
-use Rattle.joined.specs.declared.Run.TheVariants.{All, Stopped}
-use Rattle.joined.specs.Answer.{Verdict, all, refusal, Said, said, stopping, Lists, call_faults, running, planning}
+use Rattle.std.specs.Prelude.{Ok, Err}
+use Rattle.ground.specs.declared.Fault.{Fault as Refused}
+use Rattle.ground.proofs.Refusals.{refused as refusal_at, fault_again}
+use Rattle.joined.specs.Answer.{Run, Verdict, all, refusal, Said, said, stopping, Lists, call_faults, running, planning}
 
 -- an answer and its paper form: the form gives the answer back
 abbrev pub unsaid : Said → Run
 unsaid s = back s.verdict s
   where
     back : Verdict → Said → Run
-    back all s = All s.texts
-    back refusal s = Stopped s.texts s.number s.place
+    back all s = Ok s.texts
+    back refusal s = Err (record { texts = s.texts; fault = refusal_at s.number s.place })
 
 pub again : (r : Run) → unsaid (said r) ≡ r
 unfolding said
-again (All t) = refl
-again (Stopped t n p) = refl
+again (Ok t) = refl
+again (Err s) = ap (λ (f : Refused). Err (record { texts = s.texts; fault = f })) (fault_again s.fault)
 
 -- the call's own judging: 23, 11
 abbrev pub judged : List ℕ → Lists → Judged
@@ -58,8 +59,8 @@ let_in x l f =
     sym (pass _ _ long_input 0 (le-ltb _ _ f.short) (pass _ _ bad_length 0 (rw (le-ltb _ _ f.answers) (le-ltb _ _ f.plans)) fine))
 
 module _ (x : List ℕ) (budget : ℕ) (l : Lists) where
-  pub call_refused : (n p : ℕ) → judged x l ≡ Fault n p → gives (said (Stopped 0 n p)) l ≡ planning x budget l
-  unfolding planning said
+  pub call_refused : (n p : ℕ) → judged x l ≡ Fault n p → gives (stopping 0 n p) l ≡ planning x budget l
+  unfolding planning
   call_refused n p e = refused (keeping (stopping 0) l) (running x budget l) e
 
   pub call_runs : (o : Outcome Said Lists) → judged x l ≡ Fine → o ≡ running x budget l → o ≡ planning x budget l

@@ -21,7 +21,9 @@ use Rattle.text.proofs.Right.{right}
 use Rattle.text.proofs.Values.{length_delays}
 use Rattle.search.specs.Answer.{Said as Searched, Answers, given}
 use Rattle.search.specs.declared.Answer.{Answer}
-use Rattle.search.specs.declared.Answer.TheVariants.{Plan, None, Spent, Refused}
+use Rattle.search.specs.declared.Answer.TheVariants.{Plan, Nothing, Spent}
+use Rattle.std.specs.Prelude.{Result, Ok, Err}
+use Rattle.ground.specs.declared.Fault.{Fault as Refused}
 use Rattle.search.proofs.Promises.{tail_kept}
 use Rattle.search.proofs.Verdicts.{some_answer}
 use Rattle.joined.specs.Limits.{max_texts, answer_size}
@@ -31,11 +33,11 @@ use Rattle.joined.specs.Meaning.{KeptFrom}
 use Rattle.joined.proofs.Steps.{fine_back}
 
 -- no more offsets are given than there are rows
-given_few : (r : Answer) (n : ℕ) (new : List ℕ) → length (given r n new) ≤ n
-given_few (Plan t) n new = omega (arith, length-take n new)
-given_few (None t) n new = omega arith
-given_few (Spent t) n new = omega arith
-given_few (Refused m p) n new = omega arith
+given_few : (r : Result Answer Refused) (n : ℕ) (new : List ℕ) → length (given r n new) ≤ n
+given_few (Ok (Plan t)) n new = omega (arith, length-take n new)
+given_few (Ok (Nothing t)) n new = omega arith
+given_few (Ok (Spent t)) n new = omega arith
+given_few (Err f) n new = omega arith
 
 -- four places are all taken
 none_left : (xs : List ℕ) → answer_size ≤ length xs → drop answer_size (take answer_size xs) ≡ []
@@ -64,7 +66,7 @@ module _ (x : List ℕ) (budget : ℕ) (l : Lists) where
   abbrev pub outcome_of : ℕ → Outcome Searched (List ℕ)
   outcome_of t = plan_of (text t) budget (lent t)
 
-  abbrev pub answer_of : ℕ → Answer
+  abbrev pub answer_of : ℕ → Result Answer Refused
   answer_of t = (some_answer (table_link (text t)) (delays_of (text t) (rows_of (text t))) budget (lent t)).0
 
   abbrev pub numbers_of : ℕ → List ℕ

@@ -10,15 +10,13 @@ use Rattle.ground.proofs.Answers.{no_second_outcome}
 use Rattle.link.specs.Limits.{max_rows}
 use Rattle.text.specs.Limits.{max_text, cut_line}
 use Rattle.text.specs.Bytes.{newline}
-use Rattle.text.specs.Answer.{said as read_said, reading}
-use Rattle.text.specs.declared.Read.TheVariants.{Refused}
+use Rattle.text.specs.Answer.{refusing, reading}
 use Rattle.text.proofs.Texts.{text_short}
 use Rattle.joined.specs.Limits.{max_texts, answer_size, too_many_texts}
 use Rattle.joined.specs.Texts.{begin_of, answered}
-use Rattle.joined.specs.Answer.{said, Lists, planning}
+use Rattle.std.specs.Prelude.{Ok}
+use Rattle.joined.specs.Answer.{Run, said, stopping, Lists, planning}
 use Rattle.joined.specs.Meaning.{joined_of, Accepted, AllAccepted, AsAlone, KeptFrom, Fits, AnswersTexts}
-use Rattle.joined.specs.declared.Run.{Run}
-use Rattle.joined.specs.declared.Run.TheVariants.{All, Stopped}
 use Rattle.joined.proofs.Answers.{unsaid, again}
 use Rattle.joined.proofs.Joining.{table_text, all_answered}
 use Rattle.joined.proofs.Splitting.{front}
@@ -68,7 +66,7 @@ joined_short (y ∷ ys) all =
 pub joined_as_alone : (ts : List (List ℕ)) → AllAccepted ts → length ts ≤ max_texts → (budget : ℕ) (l : Lists)
     → answer_size * max_texts ≤ length l.answers → max_rows * max_texts ≤ length l.offsets
     → (r : Run) (m : Lists) → gives (said r) m ≡ planning (joined_of ts) budget l
-    → (r ≡ All (length ts)) × AsAlone ts budget l m × KeptFrom (length ts) l m
+    → (r ≡ Ok (length ts)) × AsAlone ts budget l m × KeptFrom (length ts) l m
 joined_as_alone ts all most budget l a o r m e =
     let n = append-nil (joined_of ts) in
     let f : Fits (joined_of ts ++ []) l = record { short = omega (arith, ap length n, joined_short ts all); answers = a; plans = o } in
@@ -85,14 +83,14 @@ module _ (ts : List (List ℕ)) (z : List ℕ) (all : AllAccepted ts) (most : le
 
   -- "24 where a thirty-third text begins, with that byte of the input, after the 32 answers": whatever stands there
   pub thirty_third : length ts ≡ max_texts → 1 ≤ length z
-      → (r ≡ Stopped (length ts) too_many_texts (length (joined_of ts))) × AsAlone ts budget l m × KeptFrom (length ts) l m
+      → (said r ≡ stopping (length ts) too_many_texts (length (joined_of ts))) × AsAlone ts budget l m × KeptFrom (length ts) l m
   thirty_third h some = one_too_many ts z all most budget l f r m e some (omega arith)
 
   -- "At the first text fault stop, and give that text's index with its own place": where the last text is one that `read_table` refuses
   -- alone, with 1 to 9, the run stops at it with the same number and place
   pub fault_as_alone : length ts < max_texts → 1 ≤ length z → length z ≤ max_text → (old : List ℕ) (n p : ℕ) (new : List ℕ) → n < 10
-      → gives (read_said (Refused n p)) new ≡ reading z old
-      → (r ≡ Stopped (length ts) n p) × AsAlone ts budget l m × KeptFrom (length ts) l m
+      → gives (refusing n p) new ≡ reading z old
+      → (said r ≡ stopping (length ts) n p) × AsAlone ts budget l m × KeptFrom (length ts) l m
   fault_as_alone h some short old n p new low g =
       stopped_by ts z all most budget l f r m e some n p h (own_fault ts z all old n p new short low g)
 
@@ -100,8 +98,8 @@ module _ (ts : List (List ℕ)) (z : List ℕ) (all : AllAccepted ts) (most : le
 pub fault_before_others : (ts : List (List ℕ)) (y z : List ℕ) → AllAccepted ts → length ts < max_texts → 1 ≤ length y → length y ≤ max_text
     → (budget : ℕ) (l : Lists) → Fits (joined_of ts ++ (y ++ z)) l → (r : Run) (m : Lists)
     → gives (said r) m ≡ planning (joined_of ts ++ (y ++ z)) budget l
-    → (old : List ℕ) (n p : ℕ) (new : List ℕ) → n < 10 → (n ≡ cut_line → ⊥) → gives (read_said (Refused n p)) new ≡ reading y old
-    → (r ≡ Stopped (length ts) n p) × AsAlone ts budget l m × KeptFrom (length ts) l m
+    → (old : List ℕ) (n p : ℕ) (new : List ℕ) → n < 10 → (n ≡ cut_line → ⊥) → gives (refusing n p) new ≡ reading y old
+    → (said r ≡ stopping (length ts) n p) × AsAlone ts budget l m × KeptFrom (length ts) l m
 fault_before_others ts y z all h some short budget l f r m e old n p new low other g =
     stopped_by ts (y ++ z) all (omega arith) budget l f r m e (omega (arith, length-append y z)) n p h
     (fault_before ts y z all old n p new short low other g)
@@ -111,7 +109,7 @@ fault_before_others ts y z all h some short budget l f r m e old n p new low oth
 pub lost_newline : (ts after : List (List ℕ)) (a b : List ℕ) → AllAccepted ts → Accepted (a ++ newline ∷ b) → AllAccepted after
     → length ts < max_texts → (budget : ℕ) (l : Lists) → Fits (joined_of ts ++ ((a ++ b) ++ joined_of after)) l → (r : Run) (m : Lists)
     → gives (said r) m ≡ planning (joined_of ts ++ ((a ++ b) ++ joined_of after)) budget l
-    → (n : ℕ) × (p : ℕ) × (r ≡ Stopped (length ts) n p) × AsAlone ts budget l m × KeptFrom (length ts) l m
+    → (n : ℕ) × (p : ℕ) × (said r ≡ stopping (length ts) n p) × AsAlone ts budget l m × KeptFrom (length ts) l m
 lost_newline ts after a b all y rest h budget l f r m e =
     let z = (a ++ b) ++ joined_of after in
     let w = lost_fault ts after a b all y rest in

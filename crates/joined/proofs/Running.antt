@@ -14,10 +14,9 @@ use Rattle.ground.proofs.Answers.{no_second as one_said}
 use Rattle.ground.proofs.Minimum.{least_is, least_at}
 use Rattle.joined.specs.Limits.{max_texts, too_many_texts}
 use Rattle.joined.specs.Texts.{begin_of, fault_from, is_left, answered, stop_at}
-use Rattle.joined.specs.Answer.{Said, said, all_of, stopping, Lists, lists_to, running, planning}
+use Rattle.std.specs.Prelude.{Ok}
+use Rattle.joined.specs.Answer.{Run, Said, said, all_of, stopping, Lists, lists_to, running, planning}
 use Rattle.joined.specs.Meaning.{joined_of, AllAccepted, AsAlone, KeptFrom, Fits}
-use Rattle.joined.specs.declared.Run.{Run}
-use Rattle.joined.specs.declared.Run.TheVariants.{All, Stopped}
 use Rattle.joined.proofs.Answers.{unsaid, again, runs}
 use Rattle.joined.proofs.Filled.{rest_kept}
 use Rattle.joined.proofs.Joining.{goes_on, all_answered, behind_all}
@@ -86,10 +85,10 @@ module _ (ts : List (List ℕ)) (z : List ℕ) (all : AllAccepted ts) (most : le
     unfolding is_left
     left = rw nothing_left
 
-    pub all_done : (r ≡ All (length ts)) × AsAlone ts budget l m × KeptFrom (length ts) l m
+    pub all_done : (r ≡ Ok (length ts)) × AsAlone ts budget l m × KeptFrom (length ts) l m
     unfolding stop_at said
     all_done = (
-      one_said said unsaid again {r = r} {s = All (length ts)} (ends (λ _. left)) (sym (rw nothing_left)),
+      one_said said unsaid again {r = r} {s = Ok (length ts)} (ends (λ _. left)) (sym (rw nothing_left)),
       as_alone,
       rest (λ _. left),
     )
@@ -108,21 +107,19 @@ module _ (ts : List (List ℕ)) (z : List ℕ) (all : AllAccepted ts) (most : le
     fault_left n p g = rw (there, g)
 
     pub stopped_by : (n p : ℕ) → length ts < max_texts → fault_from x (begin_of x (length ts)) ≡ Fault n p
-        → (r ≡ Stopped (length ts) n p) × AsAlone ts budget l m × KeptFrom (length ts) l m
-    unfolding stop_at said
+        → (said r ≡ stopping (length ts) n p) × AsAlone ts budget l m × KeptFrom (length ts) l m
+    unfolding stop_at
     stopped_by n p h g = (
-      one_said said unsaid again {r = r} {s = Stopped (length ts) n p} (ends (λ _. fault_left n p g))
-          (sym (rw (there, lt-leb max_texts (length ts) h, g))),
+      ends (λ _. fault_left n p g) ∙ rw (there, lt-leb max_texts (length ts) h, g),
       as_alone,
       rest (λ _. fault_left n p g),
     )
 
     pub one_too_many : max_texts ≤ length ts
-        → (r ≡ Stopped (length ts) too_many_texts (length (joined_of ts))) × AsAlone ts budget l m × KeptFrom (length ts) l m
-    unfolding stop_at said
+        → (said r ≡ stopping (length ts) too_many_texts (length (joined_of ts))) × AsAlone ts budget l m × KeptFrom (length ts) l m
+    unfolding stop_at
     one_too_many h = (
-      one_said said unsaid again {r = r} {s = Stopped (length ts) too_many_texts (length (joined_of ts))} (ends (λ k. absurd (omega arith)))
-          (sym (rw (there, le-leb max_texts (length ts) h, begins_there))),
+      ends (λ k. absurd (omega arith)) ∙ rw (there, le-leb max_texts (length ts) h, begins_there),
       as_alone,
       rest (λ k. absurd (omega arith)),
     )

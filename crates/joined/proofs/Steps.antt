@@ -3,7 +3,7 @@ use mathlib.Core.Path.{◌≡◌, refl, sym, ap, ◌∙◌}
 use mathlib.Core.Bool.{Bool, true, false, cond, ◌&&◌}
 use mathlib.Core.List.{List}
 use mathlib.Core.Logic.{⊎_elim}
-use Prim.Native.Nat.{ℕ, ◌+◌, ◌-◌, ◌≤◌, ◌<◌}
+use Prim.Native.Nat.{ℕ, ◌+◌, ◌-◌, ◌≤◌, ◌<◌, min}
 use native.Mathlib.Omega.{arith}
 use lib.Dec.{ltb, eqb}
 use lib.ListN.{length, take, drop, length-drop, length-take}
@@ -24,9 +24,9 @@ use Rattle.search.specs.Answer.{Said as Searched, said as searched_said, exactly
 use Rattle.search.specs.declared.Answer.{Answer}
 use Rattle.joined.specs.Texts.{text_from, split_cut, fault_from, is_fault}
 use Rattle.joined.specs.Answer.{Lists, lists, answer_as, plan_of, in_front}
-use Rattle.joined.specs.Steps.{step_gives}
-use Rattle.joined.specs.declared.Step.{Step}
-use Rattle.joined.specs.declared.Step.TheVariants.{Next, Wrong}
+use Rattle.joined.specs.Steps.{Step, Next, Wrong, step_gives}
+use Rattle.std.specs.Prelude.{Result}
+use Rattle.ground.specs.declared.Fault.{Fault as Refused}
 use Rattle.joined.proofs.Told.{WholeText}
 
 -- the first 1,024 bytes, or all that there are
@@ -41,6 +41,11 @@ first_bytes x at r e = middle_part x at r (at + r) refl ∙ ⊎_elim many few (l
     few h =
         let n : r ≡ length x - at = e ∙ rw (le-ltb _ _ h) in
         take_all r (drop at x) (omega (arith, length-drop at x)) ∙ sym (take_all max_text (drop at x) (omega (arith, length-drop at x)))
+
+-- at most so many, as std says it
+pub capped : (n most r : ℕ) → r ≡ min n most → r ≡ cond (ltb most n) most n
+capped n most r e =
+    ⊎_elim (λ h. rw (lt-ltb most n h) (omega arith)) (λ h. rw (le-ltb most n h) (omega arith)) (lt_or_ge most n)
 
 -- a text ends within the input
 pub ends_inside : (x : List ℕ) (at r : ℕ) → r ≡ cond (ltb max_text (length x - at)) max_text (length x - at)
@@ -58,6 +63,14 @@ split old b n p o = go (b && eqb n cut_line)
         ≡ unless (keeping Wrong old) (cond c (Fault long_text 0) (Fault n p)) o
     go true = refl
     go false = refl
+
+-- a fault that is split, as one text's answer
+pub split_wrong : (b : Bool) (n p m q : ℕ) → Fault m q ≡ split_cut Fault b n p → Wrong m q ≡ split_cut Wrong b n p
+split_wrong b n p m q e = go (b && eqb n cut_line) e
+  where
+    go : (c : Bool) → Fault m q ≡ cond c (Fault long_text 0) (Fault n p) → Wrong m q ≡ cond c (Wrong long_text 0) (Wrong n p)
+    go true h = cc
+    go false h = cc
 
 never_fine : (c : Bool) (n p : ℕ) → cond c (Fault long_text 0) (Fault n p) ≡ Fine → ⊥
 never_fine true n p e = never (cc (ap is_fault e))
@@ -83,7 +96,7 @@ module _ (x : List ℕ) (at : ℕ) where
     unfolding step_gives fault_from
     wrong_step n p s e f = rw (f, rw is at e, length-drop at x) (split l (ltb max_text (length x - at)) n p _)
 
-    pub next_step : (k : Link) (rows end : ℕ) (old kept : List ℕ) (a : Answer) (numbers offsets : List ℕ) → WholeText y k rows end old kept
+    pub next_step : (k : Link) (rows end : ℕ) (old kept : List ℕ) (a : Result Answer Refused) (numbers offsets : List ℕ) → WholeText y k rows end old kept
         → gives (searched_said a) offsets ≡ exactly k (take rows kept) budget l.offsets
         → numbers ≡ on_front (answer_as (searched_said a) rows) l.answers
         → gives (Next (at + end)) (lists numbers offsets) ≡ step_gives x at budget l

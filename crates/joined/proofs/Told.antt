@@ -16,7 +16,9 @@ use Rattle.text.specs.Faults.{text_faults, rows_of, end_of}
 use Rattle.text.specs.Answer.{table_link, delays_of}
 use Rattle.text.specs.TextAnswer.{TextSaid, TextVerdict, whole, refusal, refusing_text, text_said, wholly, reading_text}
 use Rattle.text.specs.declared.Text.{Text}
-use Rattle.text.specs.declared.Text.TheVariants.{Whole, Refused}
+use Rattle.std.specs.Prelude.{Result, Ok, Err}
+use Rattle.ground.specs.declared.Fault.{Fault as Refused}
+use Rattle.ground.specs.Refusals.{number_of}
 use Rattle.text.proofs.Right.{right}
 use Rattle.text.proofs.Values.{length_delays}
 use Rattle.text.proofs.Walk.{ended_low}
@@ -40,14 +42,14 @@ abbrev is_whole : Outcome TextSaid (List ℕ) → ℕ
 is_whole o = wholes o.says.verdict
 
 module _ (y old new : List ℕ) where
-  pub whole_told : (r : Text) (k : Link) (rows end : ℕ) → r ≡ Whole k rows end → gives (text_said r) new ≡ reading_text y old
-      → WholeText y k rows end old new
+  pub whole_told : (r : Result Text Refused) (t : Text) → r ≡ Ok t → gives (text_said r) new ≡ reading_text y old
+      → WholeText y t.link t.rows t.end old new
   unfolding reading_text text_said wholly end_of
-  whole_told r k rows end i e =
+  whole_told r t i e =
       let w = let_through (keeping refusing_text old) (first (text_faults y)) (λ n p f. never (sym (ap is_whole f))) (rw i at e) in
       let good = right y w.0 in
-      let n : rows ≡ rows_of y = ap (λ (o : Outcome TextSaid (List ℕ)). o.says.rows) w.1 in
-      let l : end ≡ end_of y = ap (λ (o : Outcome TextSaid (List ℕ)). o.says.end) w.1 in
+      let n : t.rows ≡ rows_of y = ap (λ (o : Outcome TextSaid (List ℕ)). o.says.rows) w.1 in
+      let l : t.end ≡ end_of y = ap (λ (o : Outcome TextSaid (List ℕ)). o.says.end) w.1 in
       record {
         fine = w.0;
         link = ap (λ (o : Outcome TextSaid (List ℕ)). o.says.link) w.1;
@@ -66,11 +68,12 @@ module _ (y old new : List ℕ) where
         inside = rw l (ended_low y (suc (suc (rows_of y))) (good.whole (suc (suc (rows_of y))) (omega arith)));
       }
 
-  pub fault_told : (r : Text) (n p : ℕ) → r ≡ Refused n p → gives (text_said r) new ≡ reading_text y old → first (text_faults y) ≡ Fault n p
+  pub fault_told : (r : Result Text Refused) (f : Refused) → r ≡ Err f → gives (text_said r) new ≡ reading_text y old
+      → first (text_faults y) ≡ Fault (number_of f.refusal) f.place
   unfolding reading_text text_said wholly
-  fault_told r n p i e = go (told (keeping refusing_text old) (first (text_faults y)) (rw i at e))
+  fault_told r x i e = go (told (keeping refusing_text old) (first (text_faults y)) (rw i at e))
     where
-      go : Told (keeping refusing_text old) (first (text_faults y)) (wholly y old) (gives (refusing_text n p) new)
-          → first (text_faults y) ≡ Fault n p
+      go : Told (keeping refusing_text old) (first (text_faults y)) (wholly y old) (gives (refusing_text (number_of x.refusal) x.place) new)
+          → first (text_faults y) ≡ Fault (number_of x.refusal) x.place
       go (stopped m q f g) = f ∙ ap (λ (o : Outcome TextSaid (List ℕ)). Fault o.says.number o.says.place) (sym g)
       go (through f g) = never (ap is_whole g)

@@ -23,11 +23,8 @@ use Rattle.text.specs.Faults.{end_of}
 use Rattle.text.proofs.Taken.{begins_with_its_text}
 use Rattle.joined.specs.Limits.{max_texts, answer_size, too_many_texts}
 use Rattle.joined.specs.Texts.{text_from, begin_of, fault_from, is_fault, is_left, answered, stop_at}
-use Rattle.joined.specs.Answer.{said, stopping, Lists, lists, in_front, at_text, lists_to, running}
-use Rattle.joined.specs.declared.Run.TheVariants.{All, Stopped}
-use Rattle.joined.specs.Steps.{step_gives}
-use Rattle.joined.specs.declared.Step.{Step}
-use Rattle.joined.specs.declared.Step.TheVariants.{Next, Wrong}
+use Rattle.joined.specs.Answer.{all_of, stopping, Lists, lists, in_front, at_text, lists_to, running}
+use Rattle.joined.specs.Steps.{Step, Next, Wrong, step_gives}
 use Rattle.joined.proofs.Lent.{tail_back}
 use Rattle.joined.proofs.Steps.{fine_back}
 
@@ -136,15 +133,15 @@ module _ (x : List ℕ) (budget : ℕ) (l : Lists) (at t : ℕ) (m : Lists) (w :
   stops_here h = least_at (is_left x) max_texts t w.few w.before h
 
   -- no byte is left
-  pub all_done : length x ≤ at → gives (said (All t)) m ≡ running x budget l
-  unfolding running said stop_at is_left
+  pub all_done : length x ≤ at → gives (all_of t) m ≡ running x budget l
+  unfolding running stop_at is_left
   all_done h =
       let e = le-leb (length x) (begin_of x t) (omega (arith, w.place)) in
       rw (stops_here (λ _. rw e), e, w.so_far)
 
   -- a byte is left behind 32 texts
-  pub too_many : max_texts ≤ t → at < length x → gives (said (Stopped t too_many_texts at)) m ≡ running x budget l
-  unfolding running said stop_at
+  pub too_many : max_texts ≤ t → at < length x → gives (stopping t too_many_texts at) m ≡ running x budget l
+  unfolding running stop_at
   too_many g h =
       let e = lt-leb (length x) (begin_of x t) (omega (arith, w.place)) in
       rw (stops_here (λ k. absurd (omega arith)), e, le-leb max_texts t g, w.so_far, w.place)
@@ -181,8 +178,8 @@ module _ (x : List ℕ) (budget : ℕ) (l : Lists) (at t : ℕ) (m : Lists) (w :
 
         -- text t has a fault
         pub fault_here : (s : Step) (n p : ℕ) → s ≡ Wrong n p → gives s rest ≡ step_gives x at budget (lent_from t m)
-            → gives (said (Stopped t n p)) (back_from t m rest) ≡ running x budget l
-        unfolding running said stop_at is_left
+            → gives (stopping t n p) (back_from t m rest) ≡ running x budget l
+        unfolding running stop_at is_left
         fault_here s n p i e =
             let f = told_fault x at budget (from_text t m) rest n p (rw i at e ∙ ap (step_gives x at budget) (lent_is t m)) in
             let j : fault_from x (begin_of x t) ≡ Fault n p = ap (fault_from x) (sym w.place) ∙ f.0 in

@@ -1,29 +1,31 @@
 -- Each promise, used once: on document 01's worked text, joined to itself, damaged, and 32 times over. Assumes nothing.
-use mathlib.Core.Path.{◌≡◌, refl}
+use mathlib.Core.Path.{◌≡◌, refl, sym, ap, ◌∙◌}
 use mathlib.Core.List.{List, [], ◌∷◌, ◌++◌}
 use Prim.Native.Nat.{ℕ, zero, suc, ◌≤◌, ◌<◌}
 use native.Mathlib.Omega.{arith}
 use lib.ListN.{length, get_or, replicate, length-replicate}
 use Rattle.ground.specs.Judging.{first}
-use Rattle.ground.specs.Protocol.{gives}
+use Rattle.ground.specs.Protocol.{Outcome, gives}
 use Rattle.ground.specs.Judging.{Fault}
 use Rattle.text.proofs.Worked.{front, back, text, worked}
 use Rattle.search.specs.declared.Answer.TheVariants.{Plan}
 use Rattle.search.proofs.Worked.{answers}
-use Rattle.joined.specs.Answer.{said, Lists, lists, call_faults, planning}
+use Rattle.std.specs.Prelude.{Ok}
+use Rattle.text.specs.Answer.{said as read_said}
+use Rattle.joined.specs.Answer.{Run, Said, said, stopping, Lists, lists, call_faults, planning}
 use Rattle.joined.specs.Meaning.{joined_of, Accepted, AllAccepted, Alone, Holds, KeptFrom, Fits, AnswersTexts}
-use Rattle.joined.specs.declared.Run.{Run}
-use Rattle.joined.specs.declared.Run.TheVariants.{All, Stopped}
 use Rattle.joined.proofs.Answers.{judged, call_refused}
 use Rattle.joined.proofs.Promises.{no_second, each_as_alone, joined_as_alone, front_as_alone, thirty_third, fault_as_alone}
 use Rattle.joined.proofs.Promises.{fault_before_others, lost_newline}
 
 -- document 01's first text is accepted, and alone it gets a plan after 3 tests, which is all of the budget
 accepted : Accepted text
+unfolding read_said
 accepted =
     record { link = record { period = 10; size = 2 }; rows = 3; old = 9 ∷ 9 ∷ 9 ∷ 9 ∷ []; new = 0 ∷ 3 ∷ 7 ∷ 9 ∷ []; read = worked.whole }
 
-alone : Alone text 3 3 (Plan 3) (0 ∷ 2 ∷ 5 ∷ 9 ∷ [])
+alone : Alone text 3 3 (Ok (Plan 3)) (0 ∷ 2 ∷ 5 ∷ 9 ∷ [])
+unfolding read_said
 alone =
     record {
       link = record { period = 10; size = 2 };
@@ -69,48 +71,48 @@ unfolding call_faults first
 one_byte_more = refl
 
 refused_so : (x : List ℕ) (l : Lists) (n : ℕ) → judged x l ≡ Fault n 0 → (r : Run) (m : Lists) → gives (said r) m ≡ planning x 3 l
-    → r ≡ Stopped 0 n 0
-refused_so x l n j r m e = (no_second x 3 l r (Stopped 0 n 0) m l e (call_refused x 3 l n 0 j)).0
+    → said r ≡ stopping 0 n 0
+refused_so x l n j r m e = ap (λ (o : Outcome Said Lists). o.says) (e ∙ sym (call_refused x 3 l n 0 j))
 
 pub record Promised : Type 0 where
   -- two texts, each with the whole budget of 3
   pub both : (r : Run) (m : Lists) → gives (said r) m ≡ planning (joined_of (copies 2)) 3 lent
-      → (r ≡ All 2) × Holds lent m 0 3 (Plan 3) (0 ∷ 2 ∷ 5 ∷ 9 ∷ []) × Holds lent m 1 3 (Plan 3) (0 ∷ 2 ∷ 5 ∷ 9 ∷ []) × KeptFrom 2 lent m
+      → (r ≡ Ok 2) × Holds lent m 0 3 (Ok (Plan 3)) (0 ∷ 2 ∷ 5 ∷ 9 ∷ []) × Holds lent m 1 3 (Ok (Plan 3)) (0 ∷ 2 ∷ 5 ∷ 9 ∷ []) × KeptFrom 2 lent m
   -- the text and `x`: what is answered are accepted texts
   pub each : (r : Run) (m : Lists) → gives (said r) m ≡ planning (text ++ 120 ∷ []) 3 lent → AnswersTexts (text ++ 120 ∷ []) 3 lent r m
   -- "Empty input holds no text and gets no answers."
-  pub empty : (r : Run) (m : Lists) → gives (said r) m ≡ planning [] 3 lent → (r ≡ All 0) × KeptFrom 0 lent m
+  pub empty : (r : Run) (m : Lists) → gives (said r) m ≡ planning [] 3 lent → (r ≡ Ok 0) × KeptFrom 0 lent m
   -- empty input with 127 numbers, and with 2,047 offsets; 32,769 bytes with no list at all
   pub few_answers : (r : Run) (m : Lists) → gives (said r) m ≡ planning [] 3 (lists (replicate 127 77) (replicate 2048 88))
-      → r ≡ Stopped 0 11 0
+      → said r ≡ stopping 0 11 0
   pub few_offsets : (r : Run) (m : Lists) → gives (said r) m ≡ planning [] 3 (lists (replicate 128 77) (replicate 2047 88))
-      → r ≡ Stopped 0 11 0
-  pub too_long : (r : Run) (m : Lists) → gives (said r) m ≡ planning (replicate 32769 120) 3 (lists [] []) → r ≡ Stopped 0 23 0
+      → said r ≡ stopping 0 11 0
+  pub too_long : (r : Run) (m : Lists) → gives (said r) m ≡ planning (replicate 32769 120) 3 (lists [] []) → said r ≡ stopping 0 23 0
   -- a text and `x`
   pub first_stands : (r : Run) (m : Lists) → gives (said r) m ≡ planning (joined_of (copies 1) ++ 120 ∷ []) 3 lent
-      → (1 ≤ (said r).texts) × Holds lent m 0 3 (Plan 3) (0 ∷ 2 ∷ 5 ∷ 9 ∷ [])
+      → (1 ≤ (said r).texts) × Holds lent m 0 3 (Ok (Plan 3)) (0 ∷ 2 ∷ 5 ∷ 9 ∷ [])
   -- 32 texts and `x`: 24 at byte 736
-  pub one_more : (r : Run) (m : Lists) → gives (said r) m ≡ planning (joined_of (copies 32) ++ 120 ∷ []) 3 lent → r ≡ Stopped 32 24 736
+  pub one_more : (r : Run) (m : Lists) → gives (said r) m ≡ planning (joined_of (copies 32) ++ 120 ∷ []) 3 lent → said r ≡ stopping 32 24 736
   -- the second with its byte 10 between 3 and 7 lost: 9 at its byte 16, as alone
   pub second_damaged : (r : Run) (m : Lists) → gives (said r) m ≡ planning (joined_of (copies 1) ++ (front ++ back)) 3 lent
-      → r ≡ Stopped 1 9 16
+      → said r ≡ stopping 1 9 16
   -- and with a third behind it: by its own number and place, and by the law of the lost byte
   pub second_of_three : (r : Run) (m : Lists)
-      → gives (said r) m ≡ planning (joined_of (copies 1) ++ ((front ++ back) ++ joined_of (copies 1))) 3 lent → r ≡ Stopped 1 9 16
+      → gives (said r) m ≡ planning (joined_of (copies 1) ++ ((front ++ back) ++ joined_of (copies 1))) 3 lent → said r ≡ stopping 1 9 16
   pub second_lost : (r : Run) (m : Lists)
       → gives (said r) m ≡ planning (joined_of (copies 1) ++ ((front ++ back) ++ joined_of (copies 1))) 3 lent
-      → (n : ℕ) × (p : ℕ) × (r ≡ Stopped 1 n p) × Holds lent m 0 3 (Plan 3) (0 ∷ 2 ∷ 5 ∷ 9 ∷ [])
+      → (n : ℕ) × (p : ℕ) × (said r ≡ stopping 1 n p) × Holds lent m 0 3 (Ok (Plan 3)) (0 ∷ 2 ∷ 5 ∷ 9 ∷ [])
   pub no_other : (r s : Run) (m n : Lists) → gives (said r) m ≡ planning (joined_of (copies 2)) 3 lent
       → gives (said s) n ≡ planning (joined_of (copies 2)) 3 lent → (r ≡ s) × (m ≡ n)
 
 pub promised : Promised
-unfolding joined_of
+unfolding joined_of read_said
 promised =
     record {
       both = λ r m e.
           let f = fits [] (omega arith) in
           let w = joined_as_alone (copies 2) (all_copies 2) (omega arith) 3 lent f.answers f.plans r m e in
-          (w.0, w.1 0 (omega arith) 3 (Plan 3) _ alone, w.1 1 (omega arith) 3 (Plan 3) _ alone, w.2);
+          (w.0, w.1 0 (omega arith) 3 (Ok (Plan 3)) _ alone, w.1 1 (omega arith) 3 (Ok (Plan 3)) _ alone, w.2);
       each = λ r m e. each_as_alone (text ++ 120 ∷ []) 3 lent (fits _ (omega arith)) r m e;
       empty = λ r m e.
           let f = fits [] (omega arith) in
@@ -121,7 +123,7 @@ promised =
       too_long = λ r m e. refused_so (replicate 32769 120) (lists [] []) 23 one_byte_more r m e;
       first_stands = λ r m e.
           let w = front_as_alone (copies 1) (120 ∷ []) (all_copies 1) (omega arith) 3 lent (fits _ (omega arith)) r m e in
-          (w.0, w.1 0 (omega arith) 3 (Plan 3) _ alone);
+          (w.0, w.1 0 (omega arith) 3 (Ok (Plan 3)) _ alone);
       one_more = λ r m e.
           (thirty_third (copies 32) (120 ∷ []) (all_copies 32) (omega arith) 3 lent (fits _ (omega arith)) r m e refl (omega arith)).0;
       second_damaged = λ r m e.
@@ -133,6 +135,6 @@ promised =
       second_lost = λ r m e.
           let w = lost_newline (copies 1) (copies 1) front back (all_copies 1) accepted (all_copies 1) (omega arith) 3 lent
           (fits _ (omega arith)) r m e in
-          (w.0, w.1, w.2, w.3 0 (omega arith) 3 (Plan 3) _ alone);
+          (w.0, w.1, w.2, w.3 0 (omega arith) 3 (Ok (Plan 3)) _ alone);
       no_other = λ r s m n. no_second (joined_of (copies 2)) 3 lent r s m n;
     }

@@ -1,5 +1,5 @@
 -- What `plan_texts` answers of the joined input x, and what it leaves in the two lent lists.
-use Rattle.std.specs.Prelude.{◌||◌, List, [], ◌∷◌, ◌++◌, ℕ, zero, suc, ◌*◌, ltb, length, take, drop}
+use Rattle.std.specs.Prelude.{◌||◌, List, [], ◌∷◌, ◌++◌, ℕ, zero, suc, ◌*◌, ltb, length, take, drop, Result, Ok, Err}
 use Rattle.ground.specs.Judging.{Cause, first, when}
 use Rattle.ground.specs.Lent.{on_front}
 use Rattle.ground.specs.Protocol.{Outcome, gives, keeping, unless}
@@ -9,8 +9,8 @@ use Rattle.text.specs.Answer.{table_link, delays_of}
 use Rattle.search.specs.Answer.{Said as Searched, exactly}
 use Rattle.joined.specs.Limits.{max_texts, max_joined, answer_size, long_input}
 use Rattle.joined.specs.Texts.{text_from, begin_of, answered, stop_at}
-use Rattle.joined.specs.declared.Run.{Run}
-use Rattle.joined.specs.declared.Run.TheVariants.{All, Stopped}
+use Rattle.ground.specs.Refusals.{number_of}
+use Rattle.joined.specs.declared.Stopped.{Stopped}
 
 -- every text was answered, or a refusal stopped the run
 pub data Verdict : Type 0 where
@@ -30,9 +30,13 @@ all_of t = record { verdict = all; number = 0; place = 0; texts = t }
 abbrev pub stopping : ℕ → ℕ → ℕ → Said
 stopping t n p = record { verdict = refusal; number = n; place = p; texts = t }
 
+-- as the code says it: how many texts were answered, which are all; or what stopped the run
+abbrev pub Run : Type 0
+Run = Result ℕ Stopped
+
 unfoldable pub said : Run → Said
-said (All t) = all_of t
-said (Stopped t n p) = stopping t n p
+said (Ok t) = all_of t
+said (Err s) = stopping s.texts (number_of s.fault.refusal) s.fault.place
 
 -- the two lent lists: four numbers for each answer, and 64 offsets for each text
 pub record Lists : Type 0 where

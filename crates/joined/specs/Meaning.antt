@@ -1,16 +1,15 @@
 -- What the answers mean: each is the one that its text gets alone.
-use Rattle.std.specs.Prelude.{◌≡◌, List, [], ◌∷◌, ◌++◌, ℕ, ◌*◌, ◌≤◌, ◌<◌, length, get_or, take, drop}
+use Rattle.std.specs.Prelude.{◌≡◌, List, [], ◌∷◌, ◌++◌, ℕ, ◌*◌, ◌≤◌, ◌<◌, length, get_or, take, drop, Result}
 use Rattle.ground.specs.Lent.{on_front, block}
 use Rattle.ground.specs.Protocol.{gives}
 use Rattle.link.specs.Limits.{max_rows}
 use Rattle.link.specs.declared.Link.{Link}
-use Rattle.text.specs.Answer.{said as read_said, reading}
-use Rattle.text.specs.declared.Read.TheVariants.{Table}
+use Rattle.text.specs.Answer.{tabling, reading}
 use Rattle.search.specs.Answer.{said as searched_said, Answers, given}
 use Rattle.search.specs.declared.Answer.{Answer}
+use Rattle.ground.specs.declared.Fault.{Fault}
 use Rattle.joined.specs.Limits.{max_texts, max_joined, answer_size}
-use Rattle.joined.specs.declared.Run.{Run}
-use Rattle.joined.specs.Answer.{said, Lists, answer_as}
+use Rattle.joined.specs.Answer.{Run, said, Lists, answer_as}
 
 -- "texts joined end to end"
 unfoldable pub joined_of : List (List ℕ) → List ℕ
@@ -23,30 +22,30 @@ pub record Accepted (y : List ℕ) : Type 0 where
   pub rows : ℕ
   pub old : List ℕ
   pub new : List ℕ
-  pub read : gives (read_said (Table link rows)) new ≡ reading y old
+  pub read : gives (tabling link rows) new ≡ reading y old
 
 abbrev pub AllAccepted : List (List ℕ) → Type 0
 AllAccepted ts = (t : ℕ) → t < length ts → Accepted (get_or ts t [])
 
 -- the text y alone: `read_table` reads n rows of it, and `exact` at this budget answers a and leaves `plan`, whatever lists are lent
-pub record Alone (y : List ℕ) (budget n : ℕ) (a : Answer) (plan : List ℕ) : Type 0 where
+pub record Alone (y : List ℕ) (budget n : ℕ) (a : Result Answer Fault) (plan : List ℕ) : Type 0 where
   pub link : Link
   pub old : List ℕ
   pub new : List ℕ
-  pub read : gives (read_said (Table link n)) new ≡ reading y old
+  pub read : gives (tabling link n) new ≡ reading y old
   pub lent : List ℕ
   pub room : n ≤ length lent
   pub answer : Answers link (take n new) budget lent a plan
 
 -- the lists `new`, which were `old`, have this answer in text t's places: four numbers; the plan's offsets, and what was there behind them
-pub record Holds (old new : Lists) (t n : ℕ) (a : Answer) (plan : List ℕ) : Type 0 where
+pub record Holds (old new : Lists) (t n : ℕ) (a : Result Answer Fault) (plan : List ℕ) : Type 0 where
   pub numbers : block answer_size t new.answers ≡ answer_as (searched_said a) n
   pub offsets : block max_rows t new.offsets ≡ on_front (given a n plan) (block max_rows t old.offsets)
 
 -- each of the first texts has the answer that it gets alone in its places
 abbrev pub AsAlone : List (List ℕ) → ℕ → Lists → Lists → Type 0
 AsAlone ts budget old new =
-    (t : ℕ) → t < length ts → (n : ℕ) (a : Answer) (plan : List ℕ) → Alone (get_or ts t []) budget n a plan → Holds old new t n a plan
+    (t : ℕ) → t < length ts → (n : ℕ) (a : Result Answer Fault) (plan : List ℕ) → Alone (get_or ts t []) budget n a plan → Holds old new t n a plan
 
 -- the places behind those of the first t texts are as they were
 pub record KeptFrom (t : ℕ) (old new : Lists) : Type 0 where

@@ -3,9 +3,9 @@
 
 pub mod limits;
 
-ghost use Rattle.std.specs.Prelude.{◌≡◌, cond, [], ◌∷◌, ◌≤◌, ◌*◌, ltb, length};
-ghost use Rattle.ground.specs.Judging.{first};
-ghost use Rattle.ground.specs.Lent.{on_front};
+ghost use Rattle.std.specs.Prelude.{◌≡◌, ◌≤◌, ◌*◌, ltb, length};
+ghost use Rattle.ground.specs.Judging.{first, Fault as fault_at};
+ghost use Rattle.ground.specs.Refusals.{judged, fault_of, number_of};
 ghost use Rattle.ground.specs.Protocol.{gives};
 ghost use Rattle.link.specs.Limits.{max_rows};
 ghost use Rattle.text.specs.Limits.{max_text};
@@ -13,35 +13,19 @@ ghost use Rattle.search.specs.Answer.{said as said_searched};
 ghost use Rattle.joined.specs.Limits.{max_texts, answer_size};
 ghost use Rattle.joined.specs.Texts.{split_cut};
 ghost use Rattle.joined.specs.Answer.{said, lists, answer_as, call_faults, running, planning};
-ghost use Rattle.joined.specs.Steps.{step_gives};
-ghost use Rattle.joined.specs.declared.Step.TheVariants.{Wrong};
+ghost use Rattle.joined.specs.Steps.{step_said, step_gives};
 
-use crate::limits::{LONG_INPUT, MAX_JOINED, MAX_TEXTS, TOO_MANY_TEXTS};
-use ground::Judged;
-use link::limits::{BAD_LENGTH, MAX_ROWS};
+use crate::limits::{MAX_JOINED, MAX_TEXTS};
+use ground::{Fault, Refusal};
+use link::limits::MAX_ROWS;
 use search::Answer;
-use search::limits::{BUDGET_SPENT, NO_BUILD};
-use text::Text;
-use text::limits::{CUT_LINE, LONG_TEXT, MAX_TEXT};
+use text::limits::MAX_TEXT;
 
-// How many texts were answered, and what stopped the run, if anything did: the text at fault is the one behind them.
-#[derive(Clone, Copy)]
-pub enum Run {
-    All {
-        texts: usize,
-    },
-    Stopped {
-        texts: usize,
-        number: u32,
-        place: usize,
-    },
-}
-
-// One text: where the next one begins, or its fault.
-#[derive(Drop)]
-enum Step {
-    Next { at: usize },
-    Wrong { number: u32, place: usize },
+// A fault that stopped the run, and how many texts were answered: the text at fault is the one behind them.
+#[derive(Clone, Copy, Debug, PartialEq, Eq)]
+pub struct Stopped {
+    pub texts: usize,
+    pub fault: Fault,
 }
 
 // The numbers of one answer.
@@ -49,151 +33,131 @@ const ANSWER: usize = 4;
 
 // Answers each text of the input as the exact planner does, with the whole budget: 23, 11, then text after text. Text t has the four
 // numbers from 4t on in `answers` (number, place, tests, rows), and its plan from 64t on in `offsets`.
-pub fn plan_texts(texts: &[u8], budget: u64, answers: &mut [u64], offsets: &mut [u32]) -> Run
+pub fn plan_texts(
+    texts: &[u8],
+    budget: u64,
+    answers: &mut [u64],
+    offsets: &mut [u32],
+) -> Result<usize, Stopped>
     ensures { gives (said result) (lists answers.new offsets.new)
         ≡ planning texts.now budget (lists answers.old offsets.old) }
 {
-    match judge(texts.len(), answers.len(), offsets.len()) {
-        Judged::Fault { number, place } => Run::Stopped {
-            texts: 0,
-            number,
-            place,
-        },
-        Judged::Fine => plan_each(texts, budget, answers, offsets),
+    if let Err(fault) = judge(texts.len(), answers.len(), offsets.len()) {
+        return Err(Stopped { texts: 0, fault });
     }
+    plan_each(texts, budget, answers, offsets)
 }
 
 // The input and the two lists: 23, 11.
-fn judge(bytes: usize, numbers: usize, offsets: usize) -> Judged
-    ensures { result ≡ first (call_faults bytes numbers offsets) }
+fn judge(bytes: usize, numbers: usize, offsets: usize) -> Result<(), Fault>
+    ensures { judged result ≡ first (call_faults bytes numbers offsets) }
 {
     if bytes > MAX_JOINED {
-        return Judged::Fault {
-            number: LONG_INPUT,
+        return Err(Fault {
+            refusal: Refusal::LongInput,
             place: 0,
-        };
+        });
     }
-    if numbers < ANSWER * MAX_TEXTS {
-        return Judged::Fault {
-            number: BAD_LENGTH,
+    if numbers < ANSWER * MAX_TEXTS || offsets < MAX_ROWS * MAX_TEXTS {
+        return Err(Fault {
+            refusal: Refusal::BadLength,
             place: 0,
-        };
+        });
     }
-    if offsets < MAX_ROWS * MAX_TEXTS {
-        return Judged::Fault {
-            number: BAD_LENGTH,
-            place: 0,
-        };
-    }
-    Judged::Fine
+    Ok(())
 }
 
 // Text after text, up to the end of the input, a fault, or a thirty-third text.
-fn plan_each(texts: &[u8], budget: u64, answers: &mut [u64], offsets: &mut [u32]) -> Run
+fn plan_each(
+    texts: &[u8],
+    budget: u64,
+    answers: &mut [u64],
+    offsets: &mut [u32],
+) -> Result<usize, Stopped>
     requires { (answer_size * max_texts ≤ length answers.old) × (max_rows * max_texts ≤ length offsets.old) }
     ensures { gives (said result) (lists answers.new offsets.new)
         ≡ running texts.now budget (lists answers.old offsets.old) }
 {
-    let mut at: usize = 0;
-    let mut t: usize = 0;
-    while at < texts.len() {
-        if t >= MAX_TEXTS {
-            return Run::Stopped {
-                texts: t,
-                number: TOO_MANY_TEXTS,
-                place: at,
-            };
+    let mut at = 0;
+    for t in 0..MAX_TEXTS {
+        if at >= texts.len() {
+            return Ok(t);
         }
         let a = ANSWER * t;
         let o = MAX_ROWS * t;
         match plan_text(texts, at, budget, &mut answers[a..], &mut offsets[o..]) {
-            Step::Wrong { number, place } => {
-                return Run::Stopped {
-                    texts: t,
-                    number,
-                    place,
-                };
-            }
-            Step::Next { at: next } => {
-                at = next;
-                t += 1;
-            }
+            Ok(next) => at = next,
+            Err(fault) => return Err(Stopped { texts: t, fault }),
         }
     }
-    Run::All { texts: t }
+    if at < texts.len() {
+        return Err(Stopped {
+            texts: MAX_TEXTS,
+            fault: Fault {
+                refusal: Refusal::TooManyTexts,
+                place: at,
+            },
+        });
+    }
+    Ok(MAX_TEXTS)
 }
 
-// The text that begins at `at`: its fault; or its answer, in front of the lists.
-fn plan_text(texts: &[u8], at: usize, budget: u64, answers: &mut [u64], offsets: &mut [u32]) -> Step
+// The text that begins at `at`: its fault; or its answer, in front of the lists, and where the next one begins.
+fn plan_text(
+    texts: &[u8],
+    at: usize,
+    budget: u64,
+    answers: &mut [u64],
+    offsets: &mut [u32],
+) -> Result<usize, Fault>
     requires { (at ≤ length texts.now) × (answer_size ≤ length answers.old) × (max_rows ≤ length offsets.old) }
-    ensures { gives result (lists answers.new offsets.new)
+    ensures { gives (step_said result) (lists answers.new offsets.new)
         ≡ step_gives texts.now at budget (lists answers.old offsets.old) }
 {
     let left = texts.len() - at;
-    let end = at + at_most(left);
+    // a text is read from its first 1,024 bytes
+    let end = at + left.min(MAX_TEXT);
     let mut delays = [0u32; MAX_ROWS];
     match text::read_text(&texts[at..end], &mut delays) {
-        Text::Refused { number, place } => wrong(left, number, place),
-        Text::Whole {
-            link,
-            rows,
-            end: length,
-        } => {
-            let next = at + length;
-            let answer = search::exact(link, &delays[..rows], budget, offsets);
-            write_answer(answers, answer, rows);
-            Step::Next { at: next }
+        Err(fault) => Err(cut_or_long(left, fault)),
+        Ok(text) => {
+            let next = at + text.end;
+            let answer = search::exact(text.link, &delays[..text.rows], budget, offsets);
+            ground::copy_out(&numbers(answer, text.rows), answers);
+            Ok(next)
         }
     }
 }
 
-// A text is read from its first 1,024 bytes.
-fn at_most(bytes: usize) -> usize
-    ensures { (result ≡ cond (ltb max_text bytes) max_text bytes) × (result ≤ bytes) }
-{
-    if bytes > MAX_TEXT {
-        return MAX_TEXT;
-    }
-    bytes
-}
-
 // A text's fault, with so many bytes from its first on: a line that is not ended is 1 where they go on past 1,024.
-fn wrong(bytes: usize, number: u32, place: usize) -> Step
-    ensures { result ≡ split_cut Wrong (ltb max_text bytes) number place }
+fn cut_or_long(bytes: usize, fault: Fault) -> Fault
+    ensures { fault_of result ≡ split_cut fault_at (ltb max_text bytes) (number_of fault.refusal) fault.place }
 {
     if bytes > MAX_TEXT {
-        if number == CUT_LINE {
-            return Step::Wrong {
-                number: LONG_TEXT,
+        if fault.refusal == Refusal::CutLine {
+            return Fault {
+                refusal: Refusal::LongText,
                 place: 0,
             };
         }
     }
-    Step::Wrong { number, place }
+    fault
 }
 
 // The four numbers of an answer: number, place, tests, rows.
-fn write_answer(numbers: &mut [u64], answer: Answer, rows: usize)
-    requires { answer_size ≤ length numbers.old }
-    ensures { numbers.new ≡ on_front (answer_as (said_searched answer) rows) numbers.old }
+fn numbers(answer: Result<Answer, Fault>, rows: usize) -> [u64; ANSWER]
+    ensures { result ≡ answer_as (said_searched answer) rows }
 {
+    let rows = rows as u64;
     match answer {
-        Answer::Plan { tests } => four(numbers, 0, 0, tests, rows as u64),
-        Answer::None { tests } => four(numbers, NO_BUILD as u64, 0, tests, rows as u64),
-        Answer::Spent { tests } => four(numbers, BUDGET_SPENT as u64, 0, tests, rows as u64),
-        Answer::Refused { number, place } => {
-            four(numbers, number as u64, place as u64, 0, rows as u64)
-        }
+        Ok(Answer::Plan { tests }) => [0, 0, tests, rows],
+        Ok(Answer::Nothing { tests }) => [u64::from(Refusal::NoBuild.number()), 0, tests, rows],
+        Ok(Answer::Spent { tests }) => [u64::from(Refusal::BudgetSpent.number()), 0, tests, rows],
+        Err(fault) => [
+            u64::from(fault.refusal.number()),
+            fault.place as u64,
+            0,
+            rows,
+        ],
     }
-}
-
-// They go into the front of the list.
-fn four(numbers: &mut [u64], number: u64, place: u64, tests: u64, rows: u64)
-    requires { answer_size ≤ length numbers.old }
-    ensures { numbers.new ≡ on_front (number ∷ place ∷ tests ∷ rows ∷ []) numbers.old }
-{
-    numbers[0] = number;
-    numbers[1] = place;
-    numbers[2] = tests;
-    numbers[3] = rows;
 }

@@ -1,8 +1,4 @@
-// The limits of joined texts, and the refusal numbers that only they get.
+// The limits of joined texts.
 pub const MAX_TEXTS: usize = 32;
 
 pub const MAX_JOINED: usize = 32768;
-
-pub const LONG_INPUT: u32 = 23;
-
-pub const TOO_MANY_TEXTS: u32 = 24;

@@ -1,8 +1,12 @@
 -- 23, then 11 for either list.
+use mathlib.Core.Path.{◌≡◌}
+use mathlib.Core.Bool.{true, ◌||◌, or-true}
+use lib.Dec.{ltb}
 use borrow.Author.Tests.{lt-ltb, le-ltb}
 use Rattle.ground.proofs.Faults.{hit, pass, fine}
 use Rattle.joined.specs.Answer.{call_faults}
 use Rattle.joined.proofs.judge.Goals as goal
+use Rattle.joined.proofs.judge.Goals.{then-numbers-via-then-numbers, then-numbers-via-else-numbers+then-offsets}
 
 pub returns-then-bytes-gt-MAX_JOINED : goal.returns-then-bytes-gt-MAX_JOINED
 unfolding call_faults
@@ -10,13 +14,13 @@ returns-then-bytes-gt-MAX_JOINED c = hit _ _ _ _ (lt-ltb _ _ c.if-bytes-gt-MAX_J
 
 pub returns-then-numbers : goal.returns-then-numbers
 unfolding call_faults
-returns-then-numbers c = pass _ _ _ _ (le-ltb _ _ c.if-bytes-gt-MAX_JOINED.false) (hit _ _ _ _ (rw (lt-ltb _ _ c.if-numbers.true)))
-
-pub returns-then-offsets : goal.returns-then-offsets
-unfolding call_faults
-returns-then-offsets c =
-    pass _ _ _ _ (le-ltb _ _ c.if-bytes-gt-MAX_JOINED.false)
-    (hit _ _ _ _ (rw (le-ltb _ _ c.if-numbers.false) (lt-ltb _ _ c.if-offsets.true)))
+returns-then-numbers c =
+    let short : (ltb c.args.numbers 128 || ltb c.args.offsets 2048) ≡ true =
+    elim c.then-numbers.branch [
+      | then-numbers-via-then-numbers w ↦ rw (lt-ltb c.args.numbers 128 w.if-numbers.true)
+      | then-numbers-via-else-numbers+then-offsets w ↦ rw (lt-ltb c.args.offsets 2048 w.if-offsets.true, or-true)
+    ] in
+    pass _ _ _ _ (le-ltb _ _ c.if-bytes-gt-MAX_JOINED.false) (hit _ _ _ _ short)
 
 pub returns : goal.returns
 unfolding call_faults
