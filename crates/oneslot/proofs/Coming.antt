@@ -43,8 +43,8 @@ module _
     module _ (full : p ≤ a) (m : Move)
         (f : m ≡ least_move p (can_move p l (take j ds) (get_or ds j 0) (firsts (take j ss)) (seconds (take j ss))) (length (take j ss)))
       where
-        answer : m
-        ≡ least_move p (can_move p l (take j ds) (get_or ds j 0) (take j (firsts ss)) (take j (seconds ss))) (length (take j (firsts ss)))
+        answer : m ≡ least_move p (can_move p l (take j ds) (get_or ds j 0) (take j (firsts ss)) (take j (seconds ss)))
+            (length (take j (firsts ss)))
         answer = rw (← firsts_length (take j ss), firsts_take j ss, seconds_take j ss) at f
 
         pub stays_out : m ≡ None → (n : ℕ) → j < n → settled p l ds n ≡ stuck j

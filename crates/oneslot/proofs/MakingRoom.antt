@@ -9,7 +9,7 @@ use Rattle.std.proofs.lemmas.List.{map-append}
 use borrow.Author.Count.{below_more}
 use borrow.Author.Tests.{lt-ltb, le-ltb}
 use Rattle.ground.specs.Least.{least, least_from}
-use Rattle.ground.proofs.Hunting.{Walked, from_before, from_least, walk_on, walk_ends, walk_finds}
+use Rattle.ground.proofs.Hunting.{Walked, from_before, from_low, from_least, walk_on, walk_ends, walk_finds}
 use Rattle.ground.proofs.Minimum.{least_cong, some_none}
 use Rattle.link.specs.Rows.{second}
 use Rattle.link.specs.Starts.{firsts, seconds}
@@ -53,6 +53,9 @@ module _ (p l e d : ℕ) (xs ys : List ℕ) (same : length xs ≡ length ys) whe
     where
       walked : Walked (open_to p l e xs ys 1) (room_at p l e d xs ys) p x
       walked = walk_on (open_to p l e xs ys 1) (room_at p l e d xs ys) p shut_room from x f before
+
+      pub not_before : from ≤ p → from ≤ x
+      not_before h = rw f (from_low (open_to p l e xs ys 1) from p h)
 
       pub none_left : (i : ℕ) → p ≤ x → None ≡ move_of p (fits p l e d xs ys) i
       unfolding move_of

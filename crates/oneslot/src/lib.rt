@@ -15,14 +15,8 @@ ghost use Rattle.oneslot.specs.Plan.{all_settled};
 ghost use Rattle.oneslot.specs.Others.{without, fits, can_move};
 
 use ground::{Fault, Refusal};
-use link::limits::MAX_ROWS;
 use link::{Circle, Link, Start};
-
-// Room for the starts of all rows.
-const NO_STARTS: [Start; MAX_ROWS] = [Start {
-    first: 0,
-    second: 0,
-}; MAX_ROWS];
+use quick::NO_STARTS;
 
 // An earlier row that gives way, its new offset, and the new row's.
 #[derive(Clone, Copy, Debug, PartialEq, Eq)]

@@ -13,6 +13,12 @@ use ground::{Fault, Refusal};
 use link::limits::MAX_ROWS;
 use link::{Circle, Link, Start};
 
+// Room for the starts of all rows.
+pub const NO_STARTS: [Start; MAX_ROWS] = [Start {
+    first: 0,
+    second: 0,
+}; MAX_ROWS];
+
 // Each row gets the least free offset.
 pub fn first_fit(link: Link, delays: &[u32], offsets: &mut [u32]) -> Result<(), Fault>
     ensures { gives (said result) offsets.new ≡ first_fit link delays.now offsets.old }
@@ -49,10 +55,7 @@ fn plan(
     ensures { gives (said result) offsets.new
         ≡ outcome (all_placed circle.period circle.span delays.now step count) offsets.old }
 {
-    let mut starts = [Start {
-        first: 0,
-        second: 0,
-    }; MAX_ROWS];
+    let mut starts = NO_STARTS;
     for (j, delay) in delays.iter().enumerate() {
         let Some(c) = first_free(circle, *delay, &starts[..j], step, 0, count) else {
             return Err(Fault {

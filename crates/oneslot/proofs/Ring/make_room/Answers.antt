@@ -1,10 +1,7 @@
 use Rattle.std.specs.Prelude.{◌≡◌, None}
 use native.Mathlib.Omega.{arith}
 use borrow.Author.Rules.{rules}
-use Rattle.ground.proofs.Hunting.{from_low}
-use Rattle.link.specs.Starts.{firsts, seconds}
-use Rattle.quick.specs.Ways.{open_to}
-use Rattle.oneslot.proofs.MakingRoom.{no_room, none_left, none_here, room_here, same_length, moved_behind}
+use Rattle.oneslot.proofs.MakingRoom.{no_room, not_before, none_left, none_here, room_here, same_length, moved_behind}
 use Rattle.oneslot.proofs.Ring.make_room.Goals as goal
 
 pub returns-in_err-least : goal.returns-in_err-least
@@ -20,8 +17,8 @@ returns-in-Some-beside c =
 
 pub loop-to-smaller : goal.loop-to-smaller
 loop-to-smaller c =
-    let opened = open_to c.args.self.circle.period c.args.self.circle.span c.args.moving (firsts c.args.starts.now) (seconds c.args.starts.now) 1 in
-    omega (arith, from_low opened c.loop-to.from c.args.self.circle.period c.loop-to.invariant.0, c.in-Some.ensures)
+    let on = not_before _ _ _ _ _ _ (same_length _) c.loop-to.from _ c.in-Some.ensures.0 c.loop-to.invariant.1 c.loop-to.invariant.0 in
+    omega (arith, on, c.in-Some.ensures)
 
 pub loop-to-preserved : goal.loop-to-preserved
 loop-to-preserved c =
