@@ -8,12 +8,9 @@ pub(crate) fn word(out: &mut [u8], at: usize, bytes: &[u8]) -> usize
     requires { at + length bytes.now ≤ length out.old }
     ensures { Adds out.old at bytes.now result out.new }
 {
-    let mut i = 0;
-    while i < bytes.len() {
-        out[at + i] = bytes[i];
-        i += 1;
-    }
-    at + i
+    let end = at + bytes.len();
+    out[at..end].copy_from_slice(bytes);
+    end
 }
 
 #[derive(Drop)]
@@ -57,12 +54,4 @@ pub(crate) fn line(out: &mut [u8], at: usize, n: u64) -> usize
 {
     let end = decimal(out, at, n);
     word(out, end, b"\n")
-}
-
-// An offset that ends its line.
-pub(crate) fn line_of(out: &mut [u8], at: usize, offset: u32) -> usize
-    requires { at + max_digits + 1 ≤ length out.old }
-    ensures { Adds out.old at (number_line offset) result out.new × (result ≤ at + max_digits + 1) }
-{
-    line(out, at, offset as u64)
 }
