@@ -2,7 +2,7 @@
 use mathlib.Core.Path.{◌≡◌, sym, ◌∙◌, subst}
 use mathlib.Core.Bool.{Bool, true, false, cond}
 use mathlib.Core.List.{List, [], ◌∷◌, ◌++◌, append_assoc, append-nil}
-use Prim.Native.Nat.{ℕ, zero, suc, ◌+◌, ◌/◌, ◌%◌, ◌^◌, ◌≤◌, ◌<◌}
+use Prim.Native.Nat.{ℕ, zero, suc, ◌+◌, ◌-◌, ◌/◌, ◌%◌, ◌^◌, ◌≤◌, ◌<◌}
 use native.Mathlib.Omega.{arith}
 use native.Mathlib.Nat.{mod-eq_of_lt, div-lt_iff_lt-mul, pow-suc}
 use lib.Dec.{ltb}
@@ -23,6 +23,12 @@ pub record Spelling (n : ℕ) (ds : List ℕ) (from rest : ℕ) : Type 0 where
 pub begins : (n : ℕ) (ds : List ℕ) → n < 2 ^ 64 → length ds ≡ max_digits → drop max_digits ds ≡ [] → Spelling n ds max_digits n
 begins n ds h e f =
     record { low = omega arith; high = omega arith; size = e; small = omega arith; digits = rw f (sym (append-nil (number n))) }
+
+-- at least one digit is still to be spelt
+pub some_to_spell : {n : ℕ} {ds : List ℕ} {from rest : ℕ} → Spelling n ds from rest → Spelling n ds (suc (from - 1)) rest
+some_to_spell {n} {ds} {from} {rest} s =
+    let e : from ≡ suc (from - 1) = omega (arith, s.low) in
+    subst (λ (m : ℕ). Spelling n ds m rest) e s
 
 one_digit : (k rest : ℕ) → rest < 10 → digits_in (suc k) rest ≡ ((48 + rest) ∷ [])
 unfolding digits_in

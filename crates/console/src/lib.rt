@@ -7,13 +7,13 @@ ghost use Rattle.std.specs.Prelude.{◌+◌, ◌*◌, ◌≤◌, length};
 ghost use Rattle.search.specs.Limits.{max_exact_rows};
 ghost use Rattle.link.specs.Limits.{max_rows};
 ghost use Rattle.ground.specs.Lent.{Adds};
+ghost use Rattle.ground.specs.Refusals.{number_of};
 ghost use Rattle.console.specs.Printed.{most, offset_lines, found_lines, none_line, refused_line, planned, printed};
 
+use ground::{Fault, Refusal};
 use link::Link;
 use link::limits::MAX_ROWS;
 use search::Answer;
-use search::limits::BUDGET_SPENT;
-use text::Read;
 
 // No answer takes more bytes.
 pub const MOST: usize = 256;
@@ -24,8 +24,8 @@ pub fn run(input: &[u8], out: &mut [u8; MOST]) -> usize
 {
     let mut delays = [0u32; MAX_ROWS];
     match text::read_table(input, &mut delays) {
-        Read::Refused { number, place } => refused(out, number, place),
-        Read::Table { link, rows } => plan(link, &delays[..rows], out),
+        Ok(table) => plan(table.link, &delays[..table.rows], out),
+        Err(fault) => refused(out, fault),
     }
 }
 
@@ -37,10 +37,16 @@ fn plan(link: Link, delays: &[u32], out: &mut [u8]) -> usize
     let n = delays.len();
     let mut offsets = [0u32; MAX_ROWS];
     match search::exact(link, delays, search::ceiling(n), &mut offsets) {
-        Answer::Plan { tests } => found(out, tests, &offsets[..n]),
-        Answer::None { tests } => none(out, tests),
-        Answer::Spent { tests: _ } => refused(out, BUDGET_SPENT, 0),
-        Answer::Refused { number, place } => refused(out, number, place),
+        Ok(Answer::Plan { tests }) => found(out, tests, &offsets[..n]),
+        Ok(Answer::Nothing { tests }) => none(out, tests),
+        Ok(Answer::Spent { tests: _ }) => {
+            let spent = Fault {
+                refusal: Refusal::BudgetSpent,
+                place: 0,
+            };
+            refused(out, spent)
+        }
+        Err(fault) => refused(out, fault),
     }
 }
 
@@ -60,10 +66,8 @@ fn offset_lines(out: &mut [u8], from: usize, offsets: &[u32]) -> usize
     ensures { Adds out.old from (offset_lines offsets.now) result out.new }
 {
     let mut at = from;
-    let mut i: usize = 0;
-    while i < offsets.len() {
-        at = put::line_of(out, at, offsets[i]);
-        i += 1;
+    for offset in offsets {
+        at = put::line(out, at, u64::from(*offset));
     }
     at
 }
@@ -78,12 +82,12 @@ fn none(out: &mut [u8], tests: u64) -> usize
 }
 
 // `refused`, the number and the place.
-fn refused(out: &mut [u8], number: u32, place: usize) -> usize
+fn refused(out: &mut [u8], fault: Fault) -> usize
     requires { most ≤ length out.old }
-    ensures { Adds out.old 0 (refused_line number place) result out.new }
+    ensures { Adds out.old 0 (refused_line (number_of fault.refusal) fault.place) result out.new }
 {
     let at = put::word(out, 0, b"refused ");
-    let at = put::decimal(out, at, number as u64);
+    let at = put::decimal(out, at, u64::from(fault.refusal.number()));
     let at = put::word(out, at, b" ");
-    put::line(out, at, place as u64)
+    put::line(out, at, fault.place as u64)
 }

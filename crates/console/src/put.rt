@@ -1,5 +1,5 @@
 // Bytes put into a buffer at a place; each answers the place behind them.
-ghost use Rattle.std.specs.Prelude.{◌≡◌, ◌+◌, ◌≤◌, length, drop};
+ghost use Rattle.std.specs.Prelude.{◌+◌, ◌≤◌, length};
 ghost use Rattle.console.specs.Printed.{max_digits, number, number_line};
 ghost use Rattle.ground.specs.Lent.{Adds};
 
@@ -8,46 +8,30 @@ pub(crate) fn word(out: &mut [u8], at: usize, bytes: &[u8]) -> usize
     requires { at + length bytes.now ≤ length out.old }
     ensures { Adds out.old at bytes.now result out.new }
 {
-    let mut i = 0;
-    while i < bytes.len() {
-        out[at + i] = bytes[i];
-        i += 1;
-    }
-    at + i
+    let end = at + bytes.len();
+    out[at..end].copy_from_slice(bytes);
+    end
 }
 
-#[derive(Drop)]
-pub(crate) struct Spelt {
-    pub digits: [u8; 20],
-    pub from: usize,
-}
+// No number has more digits.
+const MAX_DIGITS: usize = 20;
 
-// The digits of a number, at the end of an array.
-fn spell(n: u64) -> Spelt
-    ensures { (result.from ≤ max_digits) × (length result.digits ≡ max_digits) × (drop result.from result.digits ≡ number n) }
-{
-    let mut digits = [0u8; 20];
-    let mut from: usize = 20;
-    let mut rest = n;
-    loop {
-        from -= 1;
-        digits[from] = 48 + (rest % 10) as u8;
-        if rest < 10 {
-            return Spelt { digits, from };
-        }
-        rest /= 10;
-    }
-}
-
-// A number, in decimal.
+// A number, in decimal: its digits are found from the last to the first.
 pub(crate) fn decimal(out: &mut [u8], at: usize, n: u64) -> usize
     requires { at + max_digits ≤ length out.old }
     ensures { Adds out.old at (number n) result out.new × (result ≤ at + max_digits) }
 {
-    let spelt = spell(n);
-    let digits = spelt.digits;
-    let from = spelt.from;
-    word(out, at, &digits[from..])
+    let mut digits = [0u8; MAX_DIGITS];
+    let mut from = MAX_DIGITS;
+    let mut rest = n;
+    loop {
+        from -= 1;
+        digits[from] = b'0' + (rest % 10) as u8;
+        if rest < 10 {
+            return word(out, at, &digits[from..]);
+        }
+        rest /= 10;
+    }
 }
 
 // A number that ends its line.
@@ -57,12 +41,4 @@ pub(crate) fn line(out: &mut [u8], at: usize, n: u64) -> usize
 {
     let end = decimal(out, at, n);
     word(out, end, b"\n")
-}
-
-// An offset that ends its line.
-pub(crate) fn line_of(out: &mut [u8], at: usize, offset: u32) -> usize
-    requires { at + max_digits + 1 ≤ length out.old }
-    ensures { Adds out.old at (number_line offset) result out.new × (result ≤ at + max_digits + 1) }
-{
-    line(out, at, offset as u64)
 }

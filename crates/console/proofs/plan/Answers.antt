@@ -1,5 +1,6 @@
 -- In each arm the planner's answer is shown as `planned` says: what it said, with the ceiling as budget.
-use mathlib.Core.Path.{sym}
+use Rattle.std.specs.Prelude.{Ok}
+use mathlib.Core.Path.{sym, ap, ◌∙◌}
 use Prim.Native.Nat.{◌≤◌}
 use native.Mathlib.Omega.{arith}
 use lib.ListN.{length}
@@ -13,30 +14,30 @@ slice_bounds-found-end c = sym (length-take-le _ _ (omega (arith, c.exact.auto.o
 
 pub found-requires : goal.found-requires
 found-requires c =
-    let few = plan_few _ _ _ _ _ c.exact.ensures _ c.in-Plan.is in
+    let few = plan_few _ _ _ _ _ c.exact.ensures _ (c.in-Ok-Plan.is ∙ ap Ok c.in-Ok-Plan.field-0-is) in
     let room : length c.args.delays.now ≤ length c.exact.new.offsets = omega (arith, c.exact.auto.offsets) in
     (rw (length-take-le _ _ room) few, omega arith)
 
-pub returns-in-Plan : goal.returns-in-Plan
+pub returns-in-Ok-Plan : goal.returns-in-Ok-Plan
 unfolding said
-returns-in-Plan c =
-    let shows = planned_as _ _ _ _ _ c.exact.ensures _ c.in-Plan.is c.ceiling.ensures in
+returns-in-Ok-Plan c =
+    let shows = planned_as _ _ _ _ _ c.exact.ensures _ (c.in-Ok-Plan.is ∙ ap Ok c.in-Ok-Plan.field-0-is) c.ceiling.ensures in
     rw shows at c.found.ensures
 
-pub returns-in-None : goal.returns-in-None
+pub returns-in-Ok-Nothing : goal.returns-in-Ok-Nothing
 unfolding said
-returns-in-None c =
-    let shows = planned_as _ _ _ _ _ c.exact.ensures _ c.in-None.is c.ceiling.ensures in
+returns-in-Ok-Nothing c =
+    let shows = planned_as _ _ _ _ _ c.exact.ensures _ (c.in-Ok-Nothing.is ∙ ap Ok c.in-Ok-Nothing.field-0-is) c.ceiling.ensures in
     rw shows at c.none.ensures
 
-pub returns-in-Spent : goal.returns-in-Spent
+pub returns-in-Ok-Spent : goal.returns-in-Ok-Spent
 unfolding said
-returns-in-Spent c =
-    let shows = planned_as _ _ _ _ _ c.exact.ensures _ c.in-Spent.is c.ceiling.ensures in
+returns-in-Ok-Spent c =
+    let shows = planned_as _ _ _ _ _ c.exact.ensures _ (c.in-Ok-Spent.is ∙ ap Ok c.in-Ok-Spent.field-0-is) c.ceiling.ensures in
     rw shows at c.refused.ensures
 
-pub returns-in-Refused : goal.returns-in-Refused
+pub returns-in-Err : goal.returns-in-Err
 unfolding said
-returns-in-Refused c =
-    let shows = planned_as _ _ _ _ _ c.exact.ensures _ c.in-Refused.is c.ceiling.ensures in
-    rw shows at c.refused-in-Refused.ensures
+returns-in-Err c =
+    let shows = planned_as _ _ _ _ _ c.exact.ensures _ c.in-Err.is c.ceiling.ensures in
+    rw shows at c.refused-in-Err.ensures

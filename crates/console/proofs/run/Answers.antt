@@ -8,29 +8,29 @@ use borrow.Author.Rules.{rules}
 use Rattle.console.proofs.run.Goals as goal
 
 pub slice_bounds-delays-end : goal.slice_bounds-delays-end
-slice_bounds-delays-end c = omega (arith, rows_few _ _ _ c.read_table.ensures _ _ c.in-Table.is, c.read_table.auto.delays)
+slice_bounds-delays-end c = omega (arith, rows_few _ _ _ c.read_table.ensures _ c.in-Ok.is, c.read_table.auto.delays)
 
 pub slice_bounds-plan-end : goal.slice_bounds-plan-end
 slice_bounds-plan-end c =
-    let few = rows_few _ _ _ c.read_table.ensures _ _ c.in-Table.is in
+    let few = rows_few _ _ _ c.read_table.ensures _ c.in-Ok.is in
     sym (length-take-le _ _ (omega (arith, few, c.read_table.auto.delays)))
 
 pub plan-requires : goal.plan-requires
 plan-requires c =
-    let few = rows_few _ _ _ c.read_table.ensures _ _ c.in-Table.is in
-    let all = length-take-le c.in-Table.rows c.read_table.new.delays (omega (arith, few, c.read_table.auto.delays)) in
+    let few = rows_few _ _ _ c.read_table.ensures _ c.in-Ok.is in
+    let all = length-take-le c.in-Ok.table.rows c.read_table.new.delays (omega (arith, few, c.read_table.auto.delays)) in
     (rw all few, search rules)
 
-pub returns-in-Refused : goal.returns-in-Refused
+pub returns-in-Err : goal.returns-in-Err
 unfolding said
-returns-in-Refused c =
-    let shows = printed_as_lem _ _ _ c.read_table.ensures _ c.in-Refused.is in
+returns-in-Err c =
+    let shows = printed_as_lem _ _ _ c.read_table.ensures _ c.in-Err.is in
     rw shows at c.refused.ensures
 
-pub returns-in-Table : goal.returns-in-Table
+pub returns-in-Ok : goal.returns-in-Ok
 unfolding said
-returns-in-Table c =
-    let few = rows_few _ _ _ c.read_table.ensures _ _ c.in-Table.is in
-    let all = length-take-le c.in-Table.rows c.read_table.new.delays (omega (arith, few, c.read_table.auto.delays)) in
-    let shows = printed_as_lem _ _ _ c.read_table.ensures _ c.in-Table.is in
+returns-in-Ok c =
+    let few = rows_few _ _ _ c.read_table.ensures _ c.in-Ok.is in
+    let all = length-take-le c.in-Ok.table.rows c.read_table.new.delays (omega (arith, few, c.read_table.auto.delays)) in
+    let shows = printed_as_lem _ _ _ c.read_table.ensures _ c.in-Ok.is in
     rw shows at (rw all at c.plan.ensures)
