@@ -7,8 +7,9 @@ mod writer;
 
 ghost use Rattle.std.specs.Prelude.{◌≡◌};
 ghost use Rattle.ground.specs.Protocol.{gives};
+ghost use Rattle.ground.specs.Refusals.{number_of};
 ghost use Rattle.planfile.specs.Number.{refusal_of};
-ghost use Rattle.planfile.specs.Answer.{written_said, write_gives};
+ghost use Rattle.planfile.specs.Answer.{refused_as, written_said, write_gives};
 ghost use Rattle.planfile.specs.declared.BadNumber.TheVariants.{Malformed as BadForm};
 
 use crate::writer::ROOM;
@@ -54,6 +55,17 @@ impl<R> From<Malformed> for BadNumber<R> {
 
     fn from(malformed: Malformed) -> BadNumber<R> {
         BadNumber::Malformed(malformed)
+    }
+}
+
+impl From<BadNumber<Refusal>> for Refusal {
+    ghost from_gives = { λ bad refusal. number_of refusal ≡ refused_as number_of bad };
+
+    fn from(bad: BadNumber<Refusal>) -> Refusal {
+        match bad {
+            BadNumber::Malformed(malformed) => Refusal::from(malformed),
+            BadNumber::OutOfRange(refusal) => refusal,
+        }
     }
 }
 
