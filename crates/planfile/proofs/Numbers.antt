@@ -7,7 +7,7 @@ use Prim.Native.Nat.{ℕ, zero, suc, ◌+◌, ◌-◌, ◌*◌, ◌/◌, ◌%◌
 use native.Mathlib.Omega.{arith}
 use native.Mathlib.Numerals.{add-one}
 use lib.Dec.{ltb, eqb}
-use lib.ListN.{length, get_or, drop, set, drop_of_length-le}
+use lib.ListN.{length, get_or, drop, set, drop_of_length-le, length-set}
 use lib.Seq.{drop-cons}
 use borrow.Author.Tests.{lt-ltb, le-ltb, eq-eqb, ne_eqb, ltb-true, eqb-false}
 use Rattle.link.specs.Limits.{max_delay}
@@ -165,6 +165,32 @@ pub groups_stored : (file last : List ℕ) (at x more r : ℕ) → at < length f
 groups_stored file last at x more r l m h a =
     rw (more_groups_lem more x m h)
     (and_then file at ((128 + x % 128) ∷ []) (omega arith) _ _ (one_set file at (128 + x % 128) l) _ r last a)
+
+-- of the number x, written from `from` on, `left` is still to be written, with so many more groups after the next one: its groups, put
+-- behind those that are written, make the whole
+pub record Putting (x : ℕ) (f₀ : List ℕ) (from : ℕ) (f : List ℕ) (at left : ℕ) : Type 0 where
+  pub more : ℕ
+  pub high : left < limit more
+  pub room : at + more < length f
+  pub rest : (r : ℕ) (last : List ℕ) → Adds f at (groups more left) r last → Adds f₀ from (number_bytes x) r last
+
+pub putting_none : (x : ℕ) (f₀ : List ℕ) (from : ℕ) → x < limit more_groups → from + more_groups < length f₀ → Putting x f₀ from f₀ from x
+unfolding number_bytes
+putting_none x f₀ from h l = record { more = more_groups; high = h; room = l; rest = λ r last a. a }
+
+module _ (x : ℕ) (f₀ : List ℕ) (from : ℕ) (f : List ℕ) (at left : ℕ) (w : Putting x f₀ from f at left) where
+  pub putting_more : 128 ≤ left → Putting x f₀ from (set f at (128 + left % 128)) (at + 1) (left / 128)
+  putting_more h =
+      let m = some_more w.more left w.high h in
+      record {
+        more = w.more - 1;
+        high = next_limit w.more left w.high m;
+        room = simp length-set (omega (arith, w.room));
+        rest = λ r last a. w.rest r last (groups_stored f last at left w.more r (omega (arith, w.room)) m h a);
+      }
+
+  pub putting_done : left < 128 → Adds f₀ from (number_bytes x) (at + 1) (set f at left)
+  putting_done h = w.rest (at + 1) (set f at left) (group_stored f at left w.more (omega (arith, w.room)) h)
 
 pub length_number : (x : ℕ) → length (number_bytes x) ≤ 4
 unfolding number_bytes

@@ -1,7 +1,7 @@
 // The number in groups of seven bits, over a slice and a place in it.
 ghost use Rattle.std.specs.Prelude.{◌≡◌, ◌+◌, ◌≤◌, ◌<◌, length, drop};
 ghost use Rattle.ground.specs.Lent.{Adds};
-ghost use Rattle.planfile.specs.Number.{more_groups, limit, groups, groups_read, number_bytes, read_number, number_said};
+ghost use Rattle.planfile.specs.Number.{more_groups, limit, groups_read, number_bytes, read_number, number_said};
 
 use crate::{Malformed, Number};
 
@@ -45,23 +45,18 @@ pub(crate) fn number_at(bytes: &[u8], at: usize) -> Result<Number, Malformed>
     groups_at(bytes, at, MORE_GROUPS, true)
 }
 
-// Writes the groups of a number from a place on, and answers the place after them.
-fn put_groups(file: &mut [u8], at: usize, value: u32, more: usize) -> usize
-    requires { (at + more < length file.old) × (value < limit more) }
-    ensures { Adds file.old at (groups more value) result file.new }
-{
-    if value < GROUP {
-        file[at] = value as u8;
-        return at + 1;
-    }
-    file[at] = (GROUP + value % GROUP) as u8;
-    put_groups(file, at + 1, value / GROUP, more - 1)
-}
-
 // Writes a number at a place, and answers the place after it.
-pub(crate) fn put_number(file: &mut [u8], at: usize, value: u32) -> usize
-    requires { (at + more_groups < length file.old) × (value < limit more_groups) }
-    ensures { Adds file.old at (number_bytes value) result file.new }
+pub(crate) fn put_number(file: &mut [u8], from: usize, value: u32) -> usize
+    requires { (from + more_groups < length file.old) × (value < limit more_groups) }
+    ensures { Adds file.old from (number_bytes value) result file.new }
 {
-    put_groups(file, at, value, MORE_GROUPS)
+    let mut at = from;
+    let mut left = value;
+    while left >= GROUP {
+        file[at] = (GROUP + left % GROUP) as u8;
+        at += 1;
+        left /= GROUP;
+    }
+    file[at] = left as u8;
+    at + 1
 }
