@@ -103,7 +103,12 @@ pub struct Plan {
 const TAG: [u8; 4] = *b"PMA\x01";
 
 // Writes a clear plan into the front of the buffer, and answers the number of its bytes.
-pub fn write_plan(link: Link, delays: &[u32], offsets: &[u32], buffer: &mut [u8]) -> Result<usize, Fault>
+pub fn write_plan(
+    link: Link,
+    delays: &[u32],
+    offsets: &[u32],
+    buffer: &mut [u8],
+) -> Result<usize, Fault>
     ensures { gives (written_said result) buffer.new
         ≡ write_gives link delays.now offsets.now buffer.old }
 {

@@ -184,5 +184,13 @@ pub fn read_rest(
     let mut os = [0u32; MAX_ROWS];
     let rows = header.rows;
     let end = read_rows(bytes, at, header.link.period, rows, &mut ds, &mut os)?;
-    close(bytes, end, header.link, &ds[..rows], &os[..rows], delays, offsets)
+    close(
+        bytes,
+        end,
+        header.link,
+        &ds[..rows],
+        &os[..rows],
+        delays,
+        offsets,
+    )
 }
