@@ -1,23 +1,22 @@
 -- What the bytes say of a number, byte by byte, and how large it and its length can be. Assumes nothing.
-use mathlib.Core.Path.{◌≡◌, refl, ap}
+use mathlib.Core.Path.{◌≡◌, refl, sym, ap, ◌∙◌}
 use mathlib.Core.Bool.{Bool, true, false, cond}
 use mathlib.Core.List.{List, [], ◌∷◌}
-use mathlib.Core.Logic.{◌⊎◌, ⊎_elim}
-use Prim.Native.Nat.{ℕ, zero, suc, ◌+◌, ◌-◌, ◌*◌, ◌/◌, ◌%◌, ◌≤◌, ◌<◌}
+use mathlib.Core.Logic.{◌⊎◌, ⊎_elim, inl, inr}
+use Prim.Native.Nat.{ℕ, zero, suc, ◌+◌, ◌-◌, ◌*◌, ◌/◌, ◌%◌, ◌^◌, ◌≤◌, ◌<◌}
 use native.Mathlib.Omega.{arith}
 use native.Mathlib.Numerals.{add-one}
+use native.Mathlib.Nat.{mul_comm, mul-le-mul_right, pow-succ'}
 use lib.Dec.{ltb, eqb}
-use lib.ListN.{length, get_or, drop, set, drop_of_length-le}
+use lib.ListN.{length, get_or, drop, set, drop_of_length-le, length-set}
 use lib.Seq.{drop-cons}
 use borrow.Author.Tests.{lt-ltb, le-ltb, eq-eqb, ne_eqb, ltb-true, eqb-false}
 use Rattle.link.specs.Limits.{max_delay}
 use Rattle.ground.specs.Lent.{Adds}
 use Rattle.ground.proofs.Adding.{one_set, and_then}
 use Rattle.ground.proofs.Bools.{never}
-use Rattle.planfile.specs.Number.{Number, Value, Cut, TooLong, Needless, formed}
-use Rattle.planfile.specs.Number.{more_groups, limit, groups, number_bytes, ending, onto, groups_read}
-use Rattle.planfile.specs.declared.Malformed.{Malformed}
-use Rattle.planfile.specs.declared.Malformed.TheVariants.{Cut as IsCut, TooLong as IsTooLong, Needless as IsNeedless}
+use Rattle.planfile.specs.Number.{Number, Value, Cut, TooLong, Needless}
+use Rattle.planfile.specs.Number.{more_groups, limit, groups, number_bytes, ending, onto, groups_read, read_number}
 
 -- how the code shows what the bytes from `at` on say
 module _ (more : ℕ) (first : Bool) (bs : List ℕ) (at : ℕ) where
@@ -48,11 +47,80 @@ pub zero_after : (first : Bool) (b : ℕ) → b ≡ 0 → first ≡ false → Ne
 unfolding ending
 zero_after first b h f = rw (eq-eqb _ _ h, f)
 
-pub passes : (b : ℕ) (m : Malformed) → onto b (formed m) ≡ formed m
+-- what a number says with i groups before it that say v, its own first of weight w
+abbrev behind : ℕ → ℕ → ℕ → Number → Number
+behind v w i (Value x n) = Value (v + w * x) (i + n)
+behind v w i Cut = Cut
+behind v w i TooLong = TooLong
+behind v w i Needless = Needless
+
+nothing_behind : (q : Number) → behind 0 1 0 q ≡ q
+nothing_behind (Value x n) = let value : 0 + 1 * x ≡ x = omega arith in let many : 0 + n ≡ n = omega arith in λ i. Value (value i) (many i)
+nothing_behind Cut = refl
+nothing_behind TooLong = refl
+nothing_behind Needless = refl
+
+onto_behind : (v w i b : ℕ) (q : Number) → behind v w i (onto b q) ≡ behind (v + b % 128 * w) (w * 128) (i + 1) q
 unfolding onto
-passes b IsCut = refl
-passes b IsTooLong = refl
-passes b IsNeedless = refl
+onto_behind v w i b (Value x n) =
+    let value : v + w * (b % 128 + 128 * x) ≡ v + b % 128 * w + w * 128 * x = grind arith in
+    let many : i + suc n ≡ i + 1 + n = omega arith in
+    λ j. Value (value j) (many j)
+onto_behind v w i b Cut = refl
+onto_behind v w i b TooLong = refl
+onto_behind v w i b Needless = refl
+
+-- i groups of the bytes are read that all have more behind them; they say v
+pub record Summing (bs : List ℕ) (v w i : ℕ) : Type 0 where
+  pub many : i ≤ more_groups
+  pub value : v < w
+  pub weight : w ≡ 128 ^ i
+  pub left : behind v w i (groups_read (more_groups - i) (eqb i 0) (drop i bs)) ≡ read_number bs
+
+pub summing_none : (bs : List ℕ) → Summing bs 0 1 0
+unfolding read_number
+summing_none bs = record { many = omega arith; value = omega arith; weight = refl; left = nothing_behind (groups_read more_groups true bs) }
+
+module _ (bs : List ℕ) (v w i : ℕ) (s : Summing bs v w i) where
+  -- what the group at i says of the whole
+  said : (q : Number) → q ≡ groups_read (more_groups - i) (eqb i 0) (drop i bs) → behind v w i q ≡ read_number bs
+  said q e = ap (behind v w i) e ∙ s.left
+
+  pub summing_ended : length bs ≤ i → Cut ≡ read_number bs
+  summing_ended h = said Cut (ended (more_groups - i) (eqb i 0) bs i h)
+
+  module _ (lt : i < length bs) where
+    pub summing_value : get_or bs i 0 < 128 → ((get_or bs i 0 ≡ 0) × (i ≤ 0)) ⊎ (get_or bs i 0 ≡ 0 → ⊥)
+        → Value (v + get_or bs i 0 % 128 * w) (i + 1) ≡ read_number bs
+    summing_value h e =
+        let last : ((get_or bs i 0 ≡ 0) × (eqb i 0 ≡ true)) ⊎ (get_or bs i 0 ≡ 0 → ⊥) =
+        ⊎_elim (λ z. inl (z.0, eq-eqb i 0 (omega arith))) (λ z. inr z) e in
+        let whole : get_or bs i 0 % 128 ≡ get_or bs i 0 = omega arith in
+        let value : v + get_or bs i 0 % 128 * w ≡ v + w * get_or bs i 0 = grind (arith, whole) in
+        ap (λ (x : ℕ). Value x (i + 1)) value
+        ∙ said _ (last_value (eqb i 0) _ last ∙ last_byte (more_groups - i) (eqb i 0) bs i lt h)
+
+    pub summing_needless : get_or bs i 0 ≡ 0 → 0 < i → Needless ≡ read_number bs
+    summing_needless z h =
+        said Needless (zero_after (eqb i 0) _ z (ne_eqb i 0 (λ e. omega arith)) ∙ last_byte (more_groups - i) (eqb i 0) bs i lt (omega arith))
+
+    module _ (top : 128 ≤ get_or bs i 0) where
+      pub summing_too_long : i ≡ more_groups → TooLong ≡ read_number bs
+      summing_too_long e = said TooLong (too_long (more_groups - i) (eqb i 0) bs i lt top (omega arith))
+
+      pub summing_more : (i ≡ more_groups → ⊥) → Summing bs (v + get_or bs i 0 % 128 * w) (w * 128) (i + 1)
+      summing_more e =
+          let c_low : get_or bs i 0 % 128 * w ≤ 127 * w = mul-le-mul_right w (omega arith) in
+          let fewer : more_groups - i - 1 ≡ more_groups - (i + 1) = omega arith in
+          let later : eqb (i + 1) 0 ≡ false = ne_eqb (i + 1) 0 (λ z. omega arith) in
+          record {
+            many = omega (arith, s.many);
+            value = omega (arith, s.value);
+            weight = rw (s.weight, add-one, pow-succ' 128 i) (mul_comm (128 ^ i) 128);
+            left =
+                rw (later, ← fewer) (sym (onto_behind v w i (get_or bs i 0) _)
+                ∙ said _ (goes_on (more_groups - i) (eqb i 0) bs i lt _ top (λ z. omega (arith, s.many)) refl));
+          }
 
 -- a value, the bytes that it takes, and its bounds
 pub record Small (more size v n : ℕ) : Type 0 where
@@ -119,14 +187,6 @@ value_bounded more size Needless v n h e = never (cc)
 pub small : (more : ℕ) (first : Bool) (bs : List ℕ) (v n : ℕ) → groups_read more first bs ≡ Value v n → Small more (length bs) v n
 small more first bs v n e = value_bounded more (length bs) _ v n (bounded more first bs) e
 
--- at most two more groups: below 2 ^ 21
-pub limit_high : (more : ℕ) → more ≤ 2 → limit more ≤ 2097152
-unfolding limit
-limit_high zero h = omega arith
-limit_high (suc zero) h = omega arith
-limit_high (suc (suc zero)) h = omega arith
-limit_high (suc (suc (suc more))) h = absurd (omega arith)
-
 -- the groups of a number, as they are written
 pub one_group : (more x : ℕ) → x < 128 → groups more x ≡ x ∷ []
 unfolding groups
@@ -165,6 +225,32 @@ pub groups_stored : (file last : List ℕ) (at x more r : ℕ) → at < length f
 groups_stored file last at x more r l m h a =
     rw (more_groups_lem more x m h)
     (and_then file at ((128 + x % 128) ∷ []) (omega arith) _ _ (one_set file at (128 + x % 128) l) _ r last a)
+
+-- of the number x, written from `from` on, `left` is still to be written, with so many more groups after the next one: its groups, put
+-- behind those that are written, make the whole
+pub record Putting (x : ℕ) (f₀ : List ℕ) (from : ℕ) (f : List ℕ) (at left : ℕ) : Type 0 where
+  pub more : ℕ
+  pub high : left < limit more
+  pub room : at + more < length f
+  pub rest : (r : ℕ) (last : List ℕ) → Adds f at (groups more left) r last → Adds f₀ from (number_bytes x) r last
+
+pub putting_none : (x : ℕ) (f₀ : List ℕ) (from : ℕ) → x < limit more_groups → from + more_groups < length f₀ → Putting x f₀ from f₀ from x
+unfolding number_bytes
+putting_none x f₀ from h l = record { more = more_groups; high = h; room = l; rest = λ r last a. a }
+
+module _ (x : ℕ) (f₀ : List ℕ) (from : ℕ) (f : List ℕ) (at left : ℕ) (w : Putting x f₀ from f at left) where
+  pub putting_more : 128 ≤ left → Putting x f₀ from (set f at (128 + left % 128)) (at + 1) (left / 128)
+  putting_more h =
+      let m = some_more w.more left w.high h in
+      record {
+        more = w.more - 1;
+        high = next_limit w.more left w.high m;
+        room = simp length-set (omega (arith, w.room));
+        rest = λ r last a. w.rest r last (groups_stored f last at left w.more r (omega (arith, w.room)) m h a);
+      }
+
+  pub putting_done : left < 128 → Adds f₀ from (number_bytes x) (at + 1) (set f at left)
+  putting_done h = w.rest (at + 1) (set f at left) (group_stored f at left w.more (omega (arith, w.room)) h)
 
 pub length_number : (x : ℕ) → length (number_bytes x) ≤ 4
 unfolding number_bytes

@@ -1,7 +1,8 @@
 -- What the writer gives, and how the bytes of a plan come about. Assumes nothing.
 use mathlib.Core.Path.{◌≡◌, refl, sym, ◌∙◌}
-use mathlib.Core.List.{List, [], ◌++◌, append_assoc}
-use Prim.Native.Nat.{ℕ, ◌+◌, ◌*◌, ◌≤◌, ◌<◌}
+use mathlib.Core.Logic.{◌⊎◌, ⊎_elim}
+use mathlib.Core.List.{List, [], ◌∷◌, ◌++◌, append_assoc}
+use Prim.Native.Nat.{ℕ, suc, ◌+◌, ◌*◌, ◌≤◌, ◌<◌}
 use native.Mathlib.Omega.{arith}
 use native.Mathlib.Numerals.{add-one}
 use lib.ListN.{length, get_or, drop, length-append, drop_of_length-le}
@@ -73,43 +74,43 @@ header_put k n at r₁ r₂ r₃ f₀ f₁ f₂ f₃ room p q s =
     let two = two_put k.period k.size at r₁ r₂ f₀ f₁ f₂ (omega arith) p q in
     rw append_assoc at (and_then f₀ at _ (omega (arith, length_two k.period k.size)) r₂ f₂ two (number_bytes n) r₃ f₃ s)
 
--- j rows are written: those left, put behind them, make the whole
-pub record Writing (ds os f₀ : List ℕ) (from : ℕ) (f : List ℕ) (at j : ℕ) : Type 0 where
-  pub row : j ≤ length ds
+-- of the rows ds and os some are written, from `from` on and at most eight bytes each: those left, put behind them, make the whole
+pub record Writing (ds os f₀ : List ℕ) (from : ℕ) (f : List ℕ) (at : ℕ) (ds' os' : List ℕ) : Type 0 where
+  pub fit : RowsFit ds' os'
   pub room : length f ≡ length f₀
-  pub low : at ≤ from + 8 * j
-  pub left : (r : ℕ) (last : List ℕ) → Adds f at (rows_bytes (drop j ds) (drop j os)) r last → Adds f₀ from (rows_bytes ds os) r last
+  pub low : at + 8 * length ds' ≤ from + 8 * length ds
+  pub left : (r : ℕ) (last : List ℕ) → Adds f at (rows_bytes ds' os') r last → Adds f₀ from (rows_bytes ds os) r last
 
-pub writing_none : (ds os f₀ : List ℕ) (from : ℕ) → Writing ds os f₀ from f₀ from 0
-writing_none ds os f₀ from = record { row = omega arith; room = refl; low = omega arith; left = λ r last a. a }
+pub writing_none : (ds os f₀ : List ℕ) (from : ℕ) → RowsFit ds os → Writing ds os f₀ from f₀ from ds os
+writing_none ds os f₀ from fit = record { fit = fit; room = refl; low = omega arith; left = λ r last a. a }
 
-module _ (ds os f₀ : List ℕ) (from : ℕ) (f : List ℕ) (at j : ℕ) (w : Writing ds os f₀ from f at j) where
-  next_row : j < length ds → j < length os → rows_bytes (drop j ds) (drop j os)
-      ≡ (number_bytes (get_or ds j 0) ++ number_bytes (get_or os j 0)) ++ rows_bytes (drop (j + 1) ds) (drop (j + 1) os)
+module _ (ds os f₀ : List ℕ) (from : ℕ) (f : List ℕ) (at : ℕ) where
+  pub writing_more : (d o : ℕ) (ds' os' : List ℕ) → Writing ds os f₀ from f at (d ∷ ds') (o ∷ os') → (f₁ f₂ : List ℕ) (r₁ r₂ : ℕ)
+      → at + 8 ≤ length f → Adds f at (number_bytes d) r₁ f₁ → Adds f₁ r₁ (number_bytes o) r₂ f₂ → Writing ds os f₀ from f₂ r₂ ds' os'
   unfolding rows_bytes
-  next_row h l = rw (drop-cons ds j 0 h, drop-cons os j 0 l, add-one, append_assoc)
-
-  pub writing_more : (f₁ f₂ : List ℕ) (r₁ r₂ : ℕ) → j < length ds → RowsFit ds os → from + rows_room ≤ length f₀
-      → Adds f at (number_bytes (get_or ds j 0)) r₁ f₁ → Adds f₁ r₁ (number_bytes (get_or os j 0)) r₂ f₂
-      → Writing ds os f₀ from f₂ r₂ (j + 1)
-  writing_more f₁ f₂ r₁ r₂ h fit room p q =
-      let d = get_or ds j 0 in
-      let o = get_or os j 0 in
+  writing_more d o ds' os' w f₁ f₂ r₁ r₂ space p q =
       let short = length_two d o in
-      let space : at + 8 ≤ length f = omega (arith, w.low, w.room, fit.rows_high) in
       let fits : at + length (number_bytes d ++ number_bytes o) ≤ length f = omega arith in
       let row = two_put d o at r₁ r₂ f f₁ f₂ space p q in
-      let all = next_row h (omega (arith, fit.as_many)) in
       record {
-        row = omega arith;
+        fit = record {
+          rows_high = omega (arith, w.fit.rows_high);
+          as_many = omega (arith, w.fit.as_many);
+          delays = λ i h. w.fit.delays (suc i) (omega arith);
+          offsets = λ i h. w.fit.offsets (suc i) (omega arith);
+        };
         room = same_length f at _ fits r₂ f₂ row ∙ w.room;
         low = omega (arith, w.low, row.end);
-        left = λ r last a. w.left r last (rw all (and_then f at _ fits r₂ f₂ row _ r last a));
+        left = λ r last a. w.left r last (rw append_assoc at (and_then f at _ fits r₂ f₂ row _ r last a));
       }
 
-  pub writing_done : length ds ≤ j → Adds f₀ from (rows_bytes ds os) at f
+  -- a list that is at its end ends the rows
+  pub writing_done : (ds' os' : List ℕ) → Writing ds os f₀ from f at ds' os' → (length ds' ≡ 0) ⊎ (length os' ≡ 0)
+      → Adds f₀ from (rows_bytes ds os) at f
   unfolding rows_bytes
-  writing_done h = w.left at f (rw (drop_of_length-le ds h) (nothing_yet f at))
+  writing_done [] os' w e = w.left at f (nothing_yet f at)
+  writing_done (d ∷ ds') [] w e = w.left at f (nothing_yet f at)
+  writing_done (d ∷ ds') (o ∷ os') w e = ⊎_elim (λ h. absurd (omega arith)) (λ h. absurd (omega arith)) e
 
 -- tag, header and rows
 pub plan_put : (k : Link) (ds os f₀ f₁ f₂ f₃ : List ℕ) (r₁ r₂ : ℕ) → 4 + header_room ≤ length f₀ → f₁ ≡ tag ++ drop 4 f₀

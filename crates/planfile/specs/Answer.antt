@@ -20,11 +20,15 @@ use Rattle.planfile.specs.declared.Header.{Header}
 use Rattle.planfile.specs.declared.Row.{Row as OneRow}
 use Rattle.planfile.specs.declared.Plan.{Plan}
 
--- the inner answers as steps; a number that is read at a place is refused there, and f numbers the caller's own refusals
+-- the refusal number of a number that is not taken, where f numbers the caller's own refusals
+abbrev pub refused_as : {R : Type 0} → (R → ℕ) → BadNumber R → ℕ
+refused_as f (Malformed m) = form_fault (formed m)
+refused_as f (OutOfRange r) = f r
+
+-- the inner answers as steps; a number that is read at a place is refused there
 unfoldable pub taken_as : {R : Type 0} → (R → ℕ) → ℕ → Result Taken (BadNumber R) → Step ℕ
 taken_as f at (Ok t) = got t.value t.next
-taken_as f at (Err (Malformed m)) = stopped (form_fault (formed m)) at
-taken_as f at (Err (OutOfRange r)) = stopped (f r) at
+taken_as f at (Err b) = stopped (refused_as f b) at
 
 unfoldable pub taken : Result Taken Fault → Step ℕ
 taken (Ok t) = got t.value t.next

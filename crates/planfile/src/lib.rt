@@ -7,8 +7,9 @@ mod writer;
 
 ghost use Rattle.std.specs.Prelude.{◌≡◌};
 ghost use Rattle.ground.specs.Protocol.{gives};
+ghost use Rattle.ground.specs.Refusals.{number_of};
 ghost use Rattle.planfile.specs.Number.{refusal_of};
-ghost use Rattle.planfile.specs.Answer.{written_said, write_gives};
+ghost use Rattle.planfile.specs.Answer.{refused_as, written_said, write_gives};
 ghost use Rattle.planfile.specs.declared.BadNumber.TheVariants.{Malformed as BadForm};
 
 use crate::writer::ROOM;
@@ -57,6 +58,17 @@ impl<R> From<Malformed> for BadNumber<R> {
     }
 }
 
+impl From<BadNumber<Refusal>> for Refusal {
+    ghost from_gives = { λ bad refusal. number_of refusal ≡ refused_as number_of bad };
+
+    fn from(bad: BadNumber<Refusal>) -> Refusal {
+        match bad {
+            BadNumber::Malformed(malformed) => Refusal::from(malformed),
+            BadNumber::OutOfRange(refusal) => refusal,
+        }
+    }
+}
+
 // A number in its range, and the place after it.
 #[derive(Clone, Copy, Debug, PartialEq, Eq)]
 pub struct Taken {
@@ -91,7 +103,12 @@ pub struct Plan {
 const TAG: [u8; 4] = *b"PMA\x01";
 
 // Writes a clear plan into the front of the buffer, and answers the number of its bytes.
-pub fn write_plan(link: Link, delays: &[u32], offsets: &[u32], buffer: &mut [u8]) -> Result<usize, Fault>
+pub fn write_plan(
+    link: Link,
+    delays: &[u32],
+    offsets: &[u32],
+    buffer: &mut [u8],
+) -> Result<usize, Fault>
     ensures { gives (written_said result) buffer.new
         ≡ write_gives link delays.now offsets.now buffer.old }
 {

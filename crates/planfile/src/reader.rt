@@ -34,26 +34,17 @@ pub fn take_number<R: Copy>(
 pub fn after_number<R: Copy>(at: usize, got: Result<Taken, BadNumber<R>>) -> usize
     ensures { (f : R → ℕ) → result ≡ after at (taken_as f at got) }
 {
-    match got {
-        Ok(taken) => taken.next,
-        Err(_) => at,
-    }
+    got.map_or(at, |taken| taken.next)
 }
 
 // The number at a place, and the refusal that a number out of its range gets there.
 fn number_in(bytes: &[u8], at: usize, low: u32, high: u32, refusal: Refusal) -> Result<Taken, Fault>
     ensures { taken result ≡ number_of bytes.now at low high (refusal_number refusal) }
 {
-    match take_number(bytes, at, low, high, refusal) {
-        Ok(taken) => Ok(taken),
-        Err(bad) => Err(Fault {
-            refusal: match bad {
-                BadNumber::Malformed(malformed) => Refusal::from(malformed),
-                BadNumber::OutOfRange(own) => own,
-            },
-            place: at,
-        }),
-    }
+    take_number(bytes, at, low, high, refusal).map_err(|bad| Fault {
+        refusal: Refusal::from(bad),
+        place: at,
+    })
 }
 
 // Period, size and the number of rows.
@@ -77,7 +68,7 @@ fn read_numbers(bytes: &[u8], at: usize) -> Result<Header, Fault>
 fn tag_refusal(bytes: &[u8]) -> Refusal
     ensures { refusal_number result ≡ tag_fault bytes.now }
 {
-    if ground::begins(bytes, &TAG) {
+    if TAG.starts_with(bytes) {
         return Refusal::CutFile;
     }
     Refusal::WrongTag
@@ -87,7 +78,7 @@ fn tag_refusal(bytes: &[u8]) -> Refusal
 pub fn read_header(bytes: &[u8], at: usize) -> Result<Header, Fault>
     ensures { (headed result ≡ tagged bytes.now at) × Bytes bytes.now }
 {
-    if !ground::begins(&TAG, bytes) {
+    if !bytes.starts_with(&TAG) {
         return Err(Fault {
             refusal: tag_refusal(bytes),
             place: 0,
@@ -100,10 +91,7 @@ pub fn read_header(bytes: &[u8], at: usize) -> Result<Header, Fault>
 pub fn after_header(at: usize, head: Result<Header, Fault>) -> usize
     ensures { result ≡ after at (headed head) }
 {
-    match head {
-        Ok(header) => header.next,
-        Err(_) => at,
-    }
+    head.map_or(at, |header| header.next)
 }
 
 // Delay and offset of one row.
@@ -196,5 +184,13 @@ pub fn read_rest(
     let mut os = [0u32; MAX_ROWS];
     let rows = header.rows;
     let end = read_rows(bytes, at, header.link.period, rows, &mut ds, &mut os)?;
-    close(bytes, end, header.link, &ds[..rows], &os[..rows], delays, offsets)
+    close(
+        bytes,
+        end,
+        header.link,
+        &ds[..rows],
+        &os[..rows],
+        delays,
+        offsets,
+    )
 }

@@ -28,11 +28,9 @@ pub(crate) fn put_rows(delays: &[u32], offsets: &[u32], file: &mut [u8], from: u
     ensures { Adds file.old from (rows_bytes delays.now offsets.now) result file.new }
 {
     let mut at = from;
-    let mut j = 0;
-    while j < delays.len() {
-        let at_offset = groups::put_number(file, at, delays[j]);
-        at = groups::put_number(file, at_offset, offsets[j]);
-        j += 1;
+    for (delay, offset) in delays.iter().zip(offsets) {
+        let at_offset = groups::put_number(file, at, *delay);
+        at = groups::put_number(file, at_offset, *offset);
     }
     at
 }

@@ -1,11 +1,6 @@
--- Invariant: j rows are written, and the bytes of the rest make the whole. A row takes at most eight bytes.
-use Prim.Native.Nat.{◌-◌}
-use lib.ListN.{length}
+-- Invariant: rows are written, and the bytes of those left make the whole.
 use Rattle.planfile.proofs.Writing.{Writing}
 use Rattle.planfile.proofs.writer.put_rows.Given as goal
 
-abbrev pub invariant-loop-j : goal.invariant-loop-j
-invariant-loop-j l = Writing l.delays l.offsets l.initial.file l.from l.file l.at l.j
-
-abbrev pub decreases-loop-j : goal.decreases-loop-j
-decreases-loop-j l = length l.delays - l.j
+abbrev pub invariant-loop-delay : goal.invariant-loop-delay
+invariant-loop-delay l = Writing l.delays l.offsets l.initial.file l.from l.file l.at l.delay-iterator.a.rest.now l.delay-iterator.b.rest.now
