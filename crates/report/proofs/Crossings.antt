@@ -7,7 +7,6 @@ use native.Mathlib.Omega.{arith}
 use lib.Dec.{ltb}
 use lib.ListN.{length, get_or, take, set, length-set}
 use lib.Seq.{length-take-le, get_or-take}
-use borrow.Author.Count.{below_none}
 use Rattle.link.specs.Limits.{max_rows}
 use Rattle.link.specs.Rows.{Crossing, one, two, second, start, Clear}
 use Rattle.link.specs.Range.{InRange}
@@ -50,24 +49,19 @@ module _ {p t : ℕ} {ds os : List ℕ} (r : InRange p t ds os) where
 
 -- the rows before j have their second starts in ss
 pub record Seconds (p : ℕ) (ds os ss : List ℕ) (j : ℕ) : Type 0 where
-  pub row : j ≤ length ds
   pub room : length ss ≡ max_rows
   pub each : (i : ℕ) → i < j → get_or ss i 0 ≡ start p ds os two i
-
-pub none_yet : (p : ℕ) (ds os ss : List ℕ) → length ss ≡ max_rows → Seconds p ds os ss 0
-none_yet p ds os ss e = record { row = omega arith; room = e; each = below_none _ }
 
 module _ {p t : ℕ} {ds os ss : List ℕ} {j : ℕ} (r : InRange p t ds os) (w : Seconds p ds os ss j) where
   pub one_more : {b : ℕ} → j < length ds → b ≡ second p (get_or ds j 0) (get_or os j 0) → Seconds p ds os (set ss j b) (j + 1)
   unfolding start
   one_more {b} l e =
       record {
-        row = omega arith;
         room = length-set ss j b ∙ w.room;
         each = stored _ ss j b (omega (arith, r.rows_high, w.room)) w.each e;
       }
 
-  pub fits : length ds ≤ length ss
+  fits : length ds ≤ length ss
   fits = omega (arith, r.rows_high, w.room)
 
   pub seconds : length ds ≤ j → StartsOf p ds os two (take (length ds) ss)

@@ -10,9 +10,6 @@ use Rattle.ground.proofs.Bools.{lt_or_ge}
 use Rattle.link.specs.Rows.{second}
 use Rattle.report.specs.Steps.{at, NextStart}
 
-pub no_start_yet : (p : ℕ) (xs : List ℕ) (x : ℕ) → NextStart p xs 0 x p
-no_start_yet p xs x = record { high = omega arith; start = λ l. absurd (omega arith); before = λ k l i m. absurd (omega arith) }
-
 -- the start of row n turned back by x is a
 module _ (p : ℕ) (xs : List ℕ) (n x a b : ℕ) (hx : x < p) (hn : at xs n < p) (w : NextStart p xs n x b)
     (e : a ≡ second p (p - x) (at xs n)) where

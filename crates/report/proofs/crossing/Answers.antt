@@ -6,12 +6,6 @@ use Rattle.report.proofs.crossing.Goals.{then-run-gt0, else-run-gt0}
 pub loop-start-init : goal.loop-start-init
 loop-start-init c = setting_out _ _ _
 
-pub turn-end-requires : goal.turn-end-requires
-turn-end-requires c = (c.requires.low _ (omega arith), omega (arith, c.requires.size_low, c.requires.size_high))
-
-pub next_start-run-requires : goal.next_start-run-requires
-next_start-run-requires c = (c.turn-end.ensures.1, omega arith, c.requires.low)
-
 pub overflow_sub-free : goal.overflow_sub-free
 overflow_sub-free c =
     let room = (fits c.requires c.loop-start.invariant (omega arith)).0 in
