@@ -25,13 +25,13 @@ fn read_full<R: Read>(input: &mut R, buf: &mut [u8]) -> io::Result<usize>
     ensures err { IfErr result
         (λ _. (n : ℕ) × (n ≤ length buf.new) × Consumes (R.remaining input.old) (R.remaining input.new) (take n buf.new)) }
 {
+    // A loop of its own: `read_exact` tells no count where the input ends early, and `read_to_end` allocates.
     let mut done = 0;
     while done < buf.len() {
-        let n = input.read(&mut buf[done..])?;
-        if n == 0 {
-            return Ok(done);
+        match input.read(&mut buf[done..])? {
+            0 => break,
+            n => done += n,
         }
-        done += n;
     }
     Ok(done)
 }
