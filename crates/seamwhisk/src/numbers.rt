@@ -14,7 +14,7 @@ use checker::Collision;
 use ground::{Fault, Refusal};
 use joined::Stopped;
 use planfile::Plan;
-use report::Report;
+use report::Reported;
 use search::Answer;
 use text::Table;
 
@@ -29,7 +29,6 @@ fn refused<const N: usize>(fault: Fault) -> [u64; N]
     numbers
 }
 
-#[tactic(auto, unfolding(Rattle.checker.specs.Answer.said))]
 pub(crate) fn checked(answer: Result<Option<Collision>, Fault>) -> [u64; 5]
     ensures { result ≡ checked_as (said_checked answer) }
 {
@@ -118,11 +117,11 @@ pub(crate) fn file(answer: Result<Plan, Fault>) -> [u64; 5]
     }
 }
 
-pub(crate) fn reported(answer: Result<Report, Fault>) -> [u64; 8]
+pub(crate) fn reported(answer: Result<Reported, Fault>) -> [u64; 8]
     ensures { result ≡ reported_as (said_reported answer) }
 {
     match answer {
-        Ok(Report { first, second }) => [
+        Ok(Reported { first, second }) => [
             0,
             0,
             u64::from(first.free),

@@ -1,7 +1,0 @@
--- What the checker says is what is put into the answer.
-use mathlib.Core.Path.{ap, ◌∙◌}
-use Rattle.seamwhisk.specs.Numbers.{checked_as}
-use Rattle.seamwhisk.proofs.seamwhisk_check.Goals as goal
-
-pub returns : goal.returns
-returns c = c.checked.ensures ∙ ap checked_as c.check.ensures
