@@ -42,8 +42,8 @@ fn both(circle: Circle, delays: &[u32], offsets: &[u32]) -> Reported
     ensures { telling result.first result.second ≡ told circle.period circle.span delays.now offsets.now }
 {
     let mut seconds = [0u32; MAX_ROWS];
-    for (i, delay) in delays.iter().enumerate() {
-        seconds[i] = circle.second_start(*delay, offsets[i]);
+    for (row, delay) in delays.iter().enumerate() {
+        seconds[row] = circle.second_start(*delay, offsets[row]);
     }
     let first = crossing(circle, offsets);
     let second = crossing(circle, &seconds[..delays.len()]);
