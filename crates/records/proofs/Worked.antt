@@ -51,7 +51,8 @@ unfolding delays_of offsets_of
 same_answer r s e f = agrees link colliding r e (0 ∷ 3 ∷ 7 ∷ []) (0 ∷ 2 ∷ 4 ∷ []) s refl refl f
 
 -- a record has one of each
-pub never_eleven : (r : Checked) (p : ℕ) → said r ≡ answer link (delays_of colliding) (offsets_of colliding) → r ≡ Err (refused BadLength p) → ⊥
+pub never_eleven : (r : Checked) (p : ℕ) → said r ≡ answer link (delays_of colliding) (offsets_of colliding)
+    → r ≡ Err (refused BadLength p) → ⊥
 never_eleven r p e = never_length link colliding r e p
 
 pub only_collision : (r : Checked) → said r ≡ answer link (delays_of colliding) (offsets_of colliding) → r ≡ Ok (Some rows_0_and_2)

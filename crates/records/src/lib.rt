@@ -72,6 +72,7 @@ fn judge(link: Link, records: &[Record]) -> Result<(), Fault>
     Ok(())
 }
 
+// The checker's walk, on the records as they are lent: it calls the pair test itself, and copies no list.
 // The collision of the least later row; starts are kept, so that each is worked out once.
 fn first_collision(circle: Circle, records: &[Record]) -> Option<Collision>
     requires { InRange circle.period circle.span (delays_of records.now) (offsets_of records.now) }

@@ -2,5 +2,5 @@
 use Rattle.report.proofs.Crossings.{Seconds}
 use Rattle.report.proofs.both.Given as goal
 
-abbrev pub invariant-loop-row : goal.rownvariant-loop-row
+abbrev pub invariant-loop-row : goal.invariant-loop-row
 invariant-loop-row l = Seconds l.circle.period l.delays l.offsets l.seconds l.row
