@@ -13,9 +13,5 @@ crossing-second-requires c = placed c.requires.1 c.requires.0 c.requires.2 (seco
 
 pub returns : goal.returns
 returns c =
-<<<<<<< HEAD
-    tells _ (firsts c.requires.1) (seconds c.requires.1 c.loop-row.invariant (omega arith)) c.crossing-first.ensures c.crossing-second.ensures
-=======
     tells _ (firsts c.requires.1) (seconds c.requires.1 c.loop-row.invariant (omega arith)) c.crossing-first.ensures
     c.crossing-second.ensures
->>>>>>> 811f06bc8d31af03cbbcfce2ebd982ed9b86ce40
