@@ -1,0 +1,7 @@
+-- What is said is put down; what was lent is as the call left it.
+use Rattle.seamwhisk.specs.Numbers.{planned_as}
+use Rattle.seamwhisk.proofs.Arms.{put_down}
+use Rattle.seamwhisk.proofs.seamwhisk_first_fit.Goals as goal
+
+pub returns : goal.returns
+returns c = put_down planned_as c.first_fit.ensures c.planned.ensures
