@@ -44,8 +44,8 @@ impl<'a> FileReader<'a> {
         let taken = reader::take_number(self.bytes, self.at, low, high, fault);
         NumberRead {
             reader: FileReader {
-                bytes: self.bytes,
                 at: reader::after_number(self.at, taken),
+                ..self
             },
             taken,
         }
@@ -61,8 +61,8 @@ pub fn read_plan(bytes: &[u8], delays: &mut [u32], offsets: &mut [u32]) -> Resul
     let start = FileReader::open(bytes);
     let head = reader::read_header(start.bytes, start.at);
     let at_rows = FileReader {
-        bytes: start.bytes,
         at: reader::after_header(start.at, head),
+        ..start
     };
     reader::read_rest(at_rows.bytes, at_rows.at, head, delays, offsets)
 }

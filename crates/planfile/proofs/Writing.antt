@@ -4,9 +4,7 @@ use mathlib.Core.Logic.{◌⊎◌, ⊎_elim}
 use mathlib.Core.List.{List, [], ◌∷◌, ◌++◌, append_assoc}
 use Prim.Native.Nat.{ℕ, suc, ◌+◌, ◌*◌, ◌≤◌, ◌<◌}
 use native.Mathlib.Omega.{arith}
-use native.Mathlib.Numerals.{add-one}
-use lib.ListN.{length, get_or, drop, length-append, drop_of_length-le}
-use lib.Seq.{drop-cons}
+use lib.ListN.{length, drop, length-append}
 use borrow.Author.Tests.{lt-ltb, le-ltb}
 use Rattle.link.specs.Limits.{bad_length}
 use Rattle.link.specs.Range.{GoodPlan}
@@ -20,7 +18,7 @@ use Rattle.ground.proofs.Adding.{same_length, and_then, nothing_yet}
 use Rattle.ground.proofs.Answers.{refused, goes_on}
 use Rattle.ground.proofs.Faults.{fine as no_fault, hit, pass, front_hit, front_pass}
 use Rattle.planfile.specs.Number.{number_bytes}
-use Rattle.planfile.specs.Format.{tag, header_bytes, rows_bytes, plan_bytes, header_room, rows_room, RowsFit}
+use Rattle.planfile.specs.Format.{tag, header_bytes, rows_bytes, plan_bytes, header_room, RowsFit}
 use Rattle.planfile.specs.Answer.{writes, refuses_write, stored, write_faults, write_gives}
 use Rattle.planfile.proofs.Numbers.{length_number, few_groups}
 

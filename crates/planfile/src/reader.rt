@@ -132,6 +132,7 @@ fn read_rows(
 }
 
 // After the last number: 22 for bytes left over, 18, 11; then the rows are copied out.
+// Delays and offsets go as two lists, as the C interface lends them.
 fn close(
     bytes: &[u8],
     end: usize,
