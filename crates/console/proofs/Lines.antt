@@ -14,6 +14,9 @@ offset_lines_lem (x ∷ xs) o =
     ap (λ (l : List ℕ). number_line x ++ l) (offset_lines_lem xs o)
     ∙ sym (append_assoc (number_line x) (offset_lines xs) (number_line o))
 
-pub one_more : (os : List ℕ) (i : ℕ) → i < length os
-    → offset_lines (take i os) ++ number_line (get_or os i 0) ≡ offset_lines (take (i + 1) os)
-one_more os i h = rw (add-one, take-suc os i 0 h) (sym (offset_lines_lem (take i os) (get_or os i 0)))
+-- behind what stands already
+pub one_more : (front os : List ℕ) (i : ℕ) → i < length os
+    → (front ++ offset_lines (take i os)) ++ number_line (get_or os i 0) ≡ front ++ offset_lines (take (i + 1) os)
+one_more front os i h =
+    append_assoc front (offset_lines (take i os)) (number_line (get_or os i 0))
+    ∙ rw (add-one, take-suc os i 0 h) (ap (λ (l : List ℕ). front ++ l) (sym (offset_lines_lem (take i os) (get_or os i 0))))

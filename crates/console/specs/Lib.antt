@@ -1,2 +1,3 @@
 -- The definitions that the contracts of `console` cite.
 pub mod Printed
+pub mod Pages

@@ -1,13 +1,37 @@
 -- `found`, the tests, and the offsets, one behind the other.
+use mathlib.Core.Path.{◌≡◌}
+use mathlib.Core.List.{append-nil}
 use native.Mathlib.Omega.{arith}
-use Rattle.console.specs.Printed.{found_word, found_lines}
-use Rattle.ground.proofs.Adding.{and_then}
+use lib.ListN.{length}
+use lib.Seq.{take-length}
+use Rattle.console.specs.Printed.{found_lines, offset_lines}
+use Rattle.console.proofs.Lines.{one_more}
+use Rattle.console.proofs.Putting.{as_long, behind, line_end}
 use Rattle.console.proofs.found.Goals as goal
+
+pub line-requires : goal.line-requires
+line-requires c = omega (arith, c.requires, c.word.ensures.adds.end, as_long c.word.ensures)
+
+pub loop-offset-init : goal.loop-offset-init
+unfolding offset_lines
+loop-offset-init c = (
+  omega (arith, c.word.ensures.adds.end, line_end _ c.line.ensures),
+  rw append-nil (behind c.word.ensures c.line.ensures),
+)
+
+pub line-requires-in-loop-offset : goal.line-requires-in-loop-offset
+line-requires-in-loop-offset c =
+    omega (arith, c.requires, c.loop-offset.invariant.0, as_long c.loop-offset.invariant.1, c.loop-offset-test.true)
+
+pub loop-offset-preserved : goal.loop-offset-preserved
+loop-offset-preserved c =
+    let line = rw c.from.ensures at c.line-in-loop-offset.ensures in (
+      omega (arith, c.loop-offset.invariant.0, line_end _ c.line-in-loop-offset.ensures),
+      rw (one_more _ c.args.offsets.now c.loop-offset.offset-index c.loop-offset-test.true) at (behind c.loop-offset.invariant.1 line),
+    )
 
 pub returns : goal.returns
 unfolding found_lines
 returns c =
-    let out = c.args.out.now in
-    let one = c.word-at.ensures in
-    let two = and_then out 0 found_word (omega (arith, one.end)) _ _ one _ _ _ c.line-at.ensures.0 in
-    and_then out 0 _ (omega (arith, two.end, one.end, c.line-at.ensures.1)) _ _ two _ _ _ c.offset_lines.ensures
+    let all : c.loop-offset.offset-index ≡ length c.args.offsets.now = omega arith in
+    rw (all, take-length) at c.loop-offset.invariant.1

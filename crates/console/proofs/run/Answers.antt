@@ -6,6 +6,7 @@ use Rattle.text.specs.Answer.{said}
 use Rattle.console.proofs.Showing.{printed_as_lem, rows_few}
 use borrow.Author.Rules.{rules}
 use Rattle.console.proofs.run.Goals as goal
+use Rattle.console.proofs.run.Goals.{in-Ok, in-Err}
 
 pub slice_bounds-delays-end : goal.slice_bounds-delays-end
 slice_bounds-delays-end c = omega (arith, rows_few _ _ _ c.read_table.ensures _ c.in-Ok.is, c.read_table.auto.delays)
@@ -21,16 +22,16 @@ plan-requires c =
     let all = length-take-le c.in-Ok.table.rows c.read_table.new.delays (omega (arith, few, c.read_table.auto.delays)) in
     (rw all few, search rules)
 
-pub returns-in-Err : goal.returns-in-Err
+pub returns : goal.returns
 unfolding said
-returns-in-Err c =
-    let shows = printed_as_lem _ _ _ c.read_table.ensures _ c.in-Err.is in
-    rw shows at c.refused.ensures
-
-pub returns-in-Ok : goal.returns-in-Ok
-unfolding said
-returns-in-Ok c =
-    let few = rows_few _ _ _ c.read_table.ensures _ c.in-Ok.is in
-    let all = length-take-le c.in-Ok.table.rows c.read_table.new.delays (omega (arith, few, c.read_table.auto.delays)) in
-    let shows = printed_as_lem _ _ _ c.read_table.ensures _ c.in-Ok.is in
-    rw shows at (rw all at c.plan.ensures)
+returns c =
+    elim c.match-read_table.branch [
+      | in-Ok w ↦
+          let few = rows_few _ _ _ c.read_table.ensures _ w.in-Ok.is in
+          let all = length-take-le w.in-Ok.table.rows c.read_table.new.delays (omega (arith, few, c.read_table.auto.delays)) in
+          let shows = printed_as_lem _ _ _ c.read_table.ensures _ w.in-Ok.is in
+          rw w.page-is (rw shows at (rw all at w.plan.ensures)).adds
+      | in-Err w ↦
+          let shows = printed_as_lem _ _ _ c.read_table.ensures _ w.in-Err.is in
+          rw w.page-is (rw shows at w.refused.ensures).adds
+    ]
