@@ -4,11 +4,9 @@ use mathlib.Core.List.{List}
 use Prim.Native.Nat.{ℕ, ◌≤◌, ◌<◌}
 use lib.ListN.{length, take}
 use borrow.Author.Tests.{lt-ltb, le-ltb}
-use Rattle.ground.specs.Judging.{first}
+use Rattle.ground.specs.Judging.{Judged, Fine, Fault, first}
 use Rattle.ground.specs.Lent.{on_front}
 use Rattle.ground.specs.Protocol.{gives, keeping}
-use Rattle.ground.specs.Judging.{Judged}
-use Rattle.ground.specs.Judging.{Fine, Fault}
 use Rattle.ground.proofs.Answers.{refused, goes_on, Told, stopped, through, told, let_through}
 use Rattle.ground.proofs.Bools.{never}
 use Rattle.ground.proofs.Faults.{hit, pass, fine, front_hit, front_pass}

@@ -9,9 +9,7 @@ use lib.Dec.{eqb}
 use lib.ListN.{length, get_or, take, drop, length-append}
 use lib.Seq.{split_at, get_or-take, length-take-le, drop-append-le, take-append-le}
 use borrow.Author.Tests.{ltb-true, lt-ltb, eqb-true, eqb-false}
-use Rattle.ground.specs.Judging.{first}
-use Rattle.ground.specs.Judging.{Judged}
-use Rattle.ground.specs.Judging.{Fine, Fault}
+use Rattle.ground.specs.Judging.{Judged, Fine, Fault, first}
 use Rattle.ground.proofs.Bools.{clash, lt_or_ge, never, true_or_false}
 use Rattle.ground.proofs.Faults.{hit, fine, front_hit, front_pass}
 use Rattle.ground.proofs.Minimum.{least_is}

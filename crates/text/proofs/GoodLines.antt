@@ -7,9 +7,7 @@ use Prim.Native.Nat.{ℕ, ◌≤◌, ◌<◌}
 use native.Mathlib.Omega.{arith}
 use lib.Dec.{ltb, leb, eqb}
 use borrow.Author.Tests.{ltb-false, leb-false, eqb-false, eqb-true, not-false, le-ltb, lt-leb, ne_eqb, eq-eqb}
-use Rattle.ground.specs.Judging.{first}
-use Rattle.ground.specs.Judging.{Judged}
-use Rattle.ground.specs.Judging.{Fine, Fault}
+use Rattle.ground.specs.Judging.{Judged, Fine, Fault, first}
 use Rattle.ground.proofs.Bools.{lt_or_ge, never}
 use Rattle.ground.proofs.Faults.{pass, passed, fine}
 use Rattle.link.specs.Limits.{max_rows, max_delay, bad_delay, bad_rows}

@@ -10,9 +10,7 @@ use lib.Dec.{ltb, leb, eqb}
 use Rattle.std.specs.Prelude.{Some, None}
 use lib.ListN.{length, take, drop, drop_of_length-le}
 use borrow.Author.Tests.{eq-eqb, ne_eqb}
-use Rattle.ground.specs.Judging.{Cause, when, first}
-use Rattle.ground.specs.Judging.{Judged}
-use Rattle.ground.specs.Judging.{Fine, Fault}
+use Rattle.ground.specs.Judging.{Cause, Judged, Fine, Fault, first, when}
 use Rattle.ground.proofs.Answers.{refused, goes_on}
 use Rattle.ground.proofs.Bools.{clash, and_parts, lt_or_ge, never}
 use Rattle.ground.proofs.Beginning.{begins_with}

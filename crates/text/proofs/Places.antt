@@ -7,8 +7,7 @@ use native.Mathlib.Omega.{arith}
 use lib.Dec.{leb}
 use lib.ListN.{length}
 use borrow.Author.Tests.{ltb-true, leb-true}
-use Rattle.ground.specs.Judging.{Cause, when, first}
-use Rattle.ground.specs.Judging.{Fine}
+use Rattle.ground.specs.Judging.{Cause, Fine, first, when}
 use Rattle.ground.proofs.Bools.{and_parts}
 use Rattle.ground.proofs.Faults.{front_fine}
 use Rattle.ground.proofs.Only.{Only, only_none, only_more, only_then}

@@ -5,14 +5,12 @@ use mathlib.Core.List.{List, ◌∷◌, ◌++◌}
 use Prim.Native.Nat.{ℕ, ◌≤◌, ◌<◌}
 use lib.ListN.{length, take}
 use Rattle.std.specs.Prelude.{Result, Ok, Err}
-use Rattle.ground.specs.Judging.{first}
+use Rattle.ground.specs.Judging.{Judged, Fine, Fault, first}
 use Rattle.ground.specs.Lent.{on_front}
 use Rattle.ground.specs.Protocol.{Outcome, gives}
 use Rattle.ground.specs.Refusals.{number_of}
 use Rattle.ground.specs.declared.Fault.{Fault as Refused}
 use Rattle.ground.specs.declared.Refusal.TheVariants.{LongText}
-use Rattle.ground.specs.Judging.{Judged}
-use Rattle.ground.specs.Judging.{Fine, Fault}
 use Rattle.ground.proofs.Answers.{no_second_outcome}
 use Rattle.ground.proofs.Bools.{never}
 use Rattle.link.specs.Range.{GoodTable}

@@ -5,8 +5,7 @@ use mathlib.Core.List.{List}
 use mathlib.Core.Logic.{⊎_elim}
 use Prim.Native.Nat.{ℕ, zero, suc, ◌≤◌, ◌<◌}
 use native.Mathlib.Omega.{arith}
-use Rattle.ground.specs.Judging.{first}
-use Rattle.ground.specs.Judging.{Fine}
+use Rattle.ground.specs.Judging.{Fine, first}
 use Rattle.ground.proofs.Bools.{lt_or_ge}
 use Rattle.ground.proofs.Minimum.{least_is, least_at}
 use Rattle.ground.proofs.Faults.{pass, fine, front_pass, front_fine}

@@ -8,9 +8,8 @@ use lib.Dec.{ltb}
 use lib.ListN.{length, get_or, take, drop, get_or-append}
 use lib.Seq.{get_or_at, take_all, take_at}
 use borrow.Author.Tests.{ltb-false, le-ltb}
-use Rattle.ground.specs.Judging.{first}
+use Rattle.ground.specs.Judging.{Fine, first}
 use Rattle.ground.specs.Lent.{on_front}
-use Rattle.ground.specs.Judging.{Fine}
 use Rattle.ground.proofs.Bools.{lt_or_ge}
 use Rattle.ground.proofs.Minimum.{some_none}
 use Rattle.ground.proofs.Faults.{pass, passed, fine, front_pass, front_fine, inside}

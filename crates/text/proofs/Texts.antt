@@ -6,10 +6,9 @@ use native.Mathlib.Omega.{arith}
 use lib.ListN.{length, get_or, take, length-append, length-map, get_or-append}
 use lib.Seq.{take-suc, take-length, get_or_at}
 use borrow.Author.Tests.{le-ltb}
-use Rattle.ground.specs.Judging.{first}
+use Rattle.ground.specs.Judging.{Fine, first}
 use Rattle.ground.specs.Lent.{on_front}
 use Rattle.ground.specs.Protocol.{gives, keeping}
-use Rattle.ground.specs.Judging.{Fine}
 use Rattle.ground.proofs.Answers.{goes_on}
 use Rattle.ground.proofs.Elements.{get_or_mapped}
 use Rattle.ground.proofs.Faults.{pass, fine, front_pass, front_fine}

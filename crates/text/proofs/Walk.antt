@@ -9,10 +9,8 @@ use native.Mathlib.Omega.{arith}
 use lib.ListN.{length, take, drop, set, length-drop, length-set}
 use borrow.Author.Count.{below_more}
 use borrow.Author.Tests.{ltb-true, not-false}
-use Rattle.ground.specs.Judging.{first}
+use Rattle.ground.specs.Judging.{Judged, Fine, Fault, first}
 use Rattle.ground.specs.Protocol.{unless}
-use Rattle.ground.specs.Judging.{Judged}
-use Rattle.ground.specs.Judging.{Fine, Fault}
 use Rattle.ground.proofs.Answers.{refused, let_through}
 use Rattle.ground.proofs.Bools.{clash, lt_or_ge, never}
 use Rattle.ground.proofs.Minimum.{least_is, least_at}

@@ -1,9 +1,8 @@
 -- What the inner functions answer. The contracts of the readers do not rest on it.
 use Rattle.std.specs.Prelude.{◌≡◌, true, false, cond, not, List, [], ◌∷◌, ℕ, suc, ◌-◌, ◌≤◌, ◌<◌, ltb, leb, length, get_or, take, drop}
 use Rattle.std.specs.Prelude.{Option, Some, None, Result, Ok, Err}
-use Rattle.ground.specs.Judging.{Cause, first, when}
+use Rattle.ground.specs.Judging.{Cause, Fine, first, when}
 use Rattle.ground.specs.Protocol.{unless}
-use Rattle.ground.specs.Judging.{Fine}
 use Rattle.ground.specs.Refusals.{number_of}
 use Rattle.ground.specs.declared.Fault.{Fault}
 use Rattle.link.specs.Limits.{max_delay, max_rows, bad_delay, bad_rows}

@@ -86,6 +86,7 @@ fn read_rows(text: &[u8], head: Head, kept: &mut [u32; MAX_ROWS]) -> Result<Text
 {
     let mut at = head.at;
     let mut rows: usize = 0;
+    // no `for` over the places: the last line ends the loop, and it may stand behind 64 rows
     loop {
         match next_line(text, at, rows)? {
             Line::Last { next } => {

@@ -10,9 +10,6 @@ returns-in_err-line c =
     let e : c.from_residual.result ≡ Err c.in_err-line.field-0.0 = search rules in
     rw e (next_cut _ _ _ (c.in_err-line.ensures.cut) _)
 
-pub last-requires : goal.last-requires
-last-requires c = sym c.is_last.ensures ∙ c.if-is_last.true
-
 pub returns-then-is_last : goal.returns-then-is_last
 returns-then-is_last c =
     last_answer _ _ _ _ _ (c.in_ok-line.ensures.whole) _ _ (sym c.is_last.ensures ∙ c.if-is_last.true) c.last.ensures

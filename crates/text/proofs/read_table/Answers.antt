@@ -2,7 +2,6 @@
 use Rattle.std.specs.Prelude.{◌≡◌, Err}
 use mathlib.Core.Path.{sym}
 use native.Mathlib.Omega.{arith}
-use lib.ListN.{length-take}
 use lib.Seq.{length-take-le}
 use borrow.Author.Rules.{rules}
 use Rattle.text.specs.Answer.{said}
@@ -37,9 +36,6 @@ pub slice_bounds-copy_out-end : goal.slice_bounds-copy_out-end
 unfolding text_said
 slice_bounds-copy_out-end c =
     sym (length-take-le _ _ (omega (arith, rows_few _ _ _ _ _ (c.in_ok-link.ensures))))
-
-pub copy_out-requires : goal.copy_out-requires
-copy_out-requires c = simp length-take (omega arith)
 
 pub returns : goal.returns
 unfolding said text_said

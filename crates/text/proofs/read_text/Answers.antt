@@ -2,7 +2,6 @@
 use Rattle.std.specs.Prelude.{◌≡◌, Err}
 use mathlib.Core.Path.{sym}
 use native.Mathlib.Omega.{arith}
-use lib.ListN.{length-take}
 use lib.Seq.{length-take-le}
 use borrow.Author.Rules.{rules}
 use Rattle.text.specs.TextAnswer.{text_said}
@@ -17,10 +16,6 @@ pub slice_bounds-copy_out-end : goal.slice_bounds-copy_out-end
 unfolding text_said
 slice_bounds-copy_out-end c =
     sym (length-take-le _ _ (omega (arith, rows_few _ _ _ _ _ (c.in_ok-whole.ensures))))
-
-pub copy_out-requires : goal.copy_out-requires
-unfolding text_said
-copy_out-requires c = let few = rows_few _ _ _ _ _ (c.in_ok-whole.ensures) in simp length-take (omega arith)
 
 pub returns-in_err-whole : goal.returns-in_err-whole
 unfolding text_said

@@ -1,6 +1,5 @@
-use mathlib.Core.Path.{◌≡◌}
 use native.Mathlib.Omega.{arith}
-use lib.ListN.{length, get_or, take}
+use lib.ListN.{get_or, take}
 use lib.Seq.{length-take-le}
 use Rattle.text.proofs.Decimals.{none_counted, told_other, digit, counted_low, counted_more, in_front}
 use Rattle.text.proofs.decimal.digits.Goals as goal
@@ -18,9 +17,6 @@ overflow_mul-value c =
     let few = length-take-le c.min.result c.args.bytes.now (omega arith) in
     omega (arith, counted_low _ _ _ c.loop-digits.invariant (omega (arith, few)))
 
-pub overflow_sub-byte : goal.overflow_sub-byte
-overflow_sub-byte c = (digit _ (told_other _ c.is_ascii_digit.ensures.value c.if-not-is_ascii_digit.false)).0
-
 pub overflow_add-value : goal.overflow_add-value
 overflow_add-value c =
     let few = length-take-le c.min.result c.args.bytes.now (omega arith) in
@@ -33,10 +29,3 @@ loop-digits-preserved c =
     rw c.from.ensures
     (counted_more _ _ _ c.loop-digits.invariant c.loop-digits-test.true
     (told_other _ c.is_ascii_digit.ensures.value c.if-not-is_ascii_digit.false))
-
-pub returns : goal.returns
-returns c =
-    let few = length-take-le c.min.result c.args.bytes.now (omega arith) in
-    let all : c.loop-digits.digits ≡ length (take c.min.result c.args.bytes.now) = omega (arith, c.loop-digits.invariant.inside) in
-    in_front _ c.min.result _ _ (omega arith) (omega arith) (λ l. omega arith) (rw all at c.loop-digits.invariant)
-    (λ l. absurd (omega (arith, few)))

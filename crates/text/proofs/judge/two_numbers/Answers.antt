@@ -1,14 +1,8 @@
 -- The part before the first space, then the part behind it.
 use mathlib.Core.Path.{sym}
-use native.Mathlib.Omega.{arith}
-use lib.Seq.{length-take-le}
-use Rattle.text.specs.Bytes.{space}
 use Rattle.text.proofs.LineForms.{no_numbers, first_not, second_not, both}
 use Rattle.text.proofs.Finding.{seek_some, seek_none}
 use Rattle.text.proofs.judge.two_numbers.Goals as goal
-
-pub slice_bounds-read-end : goal.slice_bounds-read-end
-slice_bounds-read-end c = sym (length-take-le _ _ (omega (arith, seek_some space c.args.line.now c.in_ok-k.k (sym (c.in_ok-k.ensures)))))
 
 pub returns-in_err-k : goal.returns-in_err-k
 returns-in_err-k c = rw c.from_residual.ensures (no_numbers _ (seek_none _ _ (sym (c.in_err-k.ensures))))
