@@ -1,7 +1,7 @@
 -- How a number is spelt from its last digit to its first. Assumes nothing.
 use mathlib.Core.Path.{◌≡◌, sym, ◌∙◌, subst}
 use mathlib.Core.Bool.{Bool, true, false, cond}
-use mathlib.Core.List.{List, [], ◌∷◌, ◌++◌, append_assoc, append-nil}
+use mathlib.Core.List.{List, [], ◌∷◌, ◌++◌, append_assoc}
 use Prim.Native.Nat.{ℕ, zero, suc, ◌+◌, ◌-◌, ◌/◌, ◌%◌, ◌^◌, ◌≤◌, ◌<◌}
 use native.Mathlib.Omega.{arith}
 use native.Mathlib.Nat.{mod-eq_of_lt, div-lt_iff_lt-mul, pow-suc}
@@ -19,10 +19,6 @@ pub record Spelling (n : ℕ) (ds : List ℕ) (from rest : ℕ) : Type 0 where
   pub size : length ds ≡ max_digits
   pub small : rest < 10 ^ from
   pub digits : number n ≡ digits_in from rest ++ drop from ds
-
-pub begins : (n : ℕ) (ds : List ℕ) → n < 2 ^ 64 → length ds ≡ max_digits → drop max_digits ds ≡ [] → Spelling n ds max_digits n
-begins n ds h e f =
-    record { low = omega arith; high = omega arith; size = e; small = omega arith; digits = rw f (sym (append-nil (number n))) }
 
 -- at least one digit is still to be spelt
 pub some_to_spell : {n : ℕ} {ds : List ℕ} {from rest : ℕ} → Spelling n ds from rest → Spelling n ds (suc (from - 1)) rest

@@ -1,9 +1,9 @@
 -- The board, place by place: where a row starts, as the code reads it and as the definitions do. Assumes nothing.
-use mathlib.Core.Path.{◌≡◌, refl}
-use mathlib.Core.List.{List, [], ◌∷◌}
-use Prim.Native.Nat.{ℕ, zero, suc, ◌-◌, ◌<◌, ◌≤◌}
+use mathlib.Core.Path.{◌≡◌, refl, sym}
+use mathlib.Core.List.{List, ◌∷◌}
+use Prim.Native.Nat.{ℕ, ◌-◌, ◌<◌, ◌≤◌}
 use native.Mathlib.Omega.{arith}
-use lib.ListN.{length, get_or, set, take, replicate}
+use lib.ListN.{length, get_or, get_or-map, set, take, replicate}
 use lib.Seq.{get_or-take, length-take-le}
 use Rattle.link.specs.Limits.{max_rows}
 use Rattle.link.specs.Starts.{firsts, seconds}
@@ -17,15 +17,11 @@ nowhere = record { first = 0; second = 0 }
 
 pub first_on : (ss : List Start) (i : ℕ) → (get_or ss i nowhere).first ≡ get_or (firsts ss) i 0
 unfolding firsts
-first_on [] i = refl
-first_on (s ∷ ss) zero = refl
-first_on (s ∷ ss) (suc i) = first_on ss i
+first_on ss i = sym (get_or-map (λ (s : Start). s.first) ss i nowhere)
 
 pub second_on : (ss : List Start) (i : ℕ) → (get_or ss i nowhere).second ≡ get_or (seconds ss) i 0
 unfolding seconds
-second_on [] i = refl
-second_on (s ∷ ss) zero = refl
-second_on (s ∷ ss) (suc i) = second_on ss i
+second_on ss i = sym (get_or-map (λ (s : Start). s.second) ss i nowhere)
 
 -- a row in front of the board, as a row to be met
 module _ (n : ℕ) (ss : List Start) (few : n ≤ length ss) (i : ℕ) (h : i < length (take n ss)) where

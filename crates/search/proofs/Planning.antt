@@ -83,6 +83,3 @@ module _ (budget n : ℕ) (old s s' : List ℕ) (o : Out) where
       go : (o : Out) → budget < tests o → gives (says spent budget_spent 0 budget) old ≡ outcome budget n old o
       go (found x t) h = rw (lt-ltb budget t h)
       go (none t) h = rw (lt-ltb budget t h)
-
-pub in_array : {n m : ℕ} → m ≡ max_rows → n ≤ max_rows → n ≤ m
-in_array e h = omega arith

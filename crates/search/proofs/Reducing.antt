@@ -1,13 +1,12 @@
 -- Delays within the period stand for the delays. Assumes nothing.
-use mathlib.Core.Path.{◌≡◌, refl, sym, ap, ◌∙◌, fun_ext}
+use mathlib.Core.Path.{◌≡◌, refl, ap, ◌∙◌, fun_ext}
 use mathlib.Core.Logic.{⊎_elim}
 use mathlib.Core.Bool.{Bool, not}
 use mathlib.Core.List.{List}
-use Prim.Native.Nat.{ℕ, ◌+◌, ◌%◌, ◌<◌, ◌≤◌}
+use Prim.Native.Nat.{ℕ, ◌%◌, ◌<◌, ◌≤◌}
 use native.Mathlib.Omega.{arith}
-use native.Mathlib.Nat.{mod-eq_of_lt, add-mod-mod, mod-mod}
-use lib.ListN.{length, get_or, set, length-set, replicate, get_or-replicate, length-replicate, get_or-eq_default}
-use lib.Seq.{get_or-set_same, get_or-set_other}
+use native.Mathlib.Nat.{add-mod-mod, mod-mod}
+use lib.ListN.{length, get_or, set, replicate, get_or-replicate, length-replicate, get_or-eq_default}
 use Rattle.link.specs.Limits.{max_rows}
 use Rattle.ground.specs.Least.{some}
 use Rattle.link.specs.Rows.{Crossing, one, two, second, start, start_at, hits, either}
@@ -29,22 +28,6 @@ reduced_none p ds =
       rest = λ j l. ⊎_elim (λ a. get_or-replicate max_rows j 0 0 a)
           (λ a. get_or-eq_default (replicate max_rows 0) 0 {n = j} (rw (length-replicate {A = ℕ} max_rows 0) a)) (lt_or_ge j max_rows);
     }
-
-pub reduced_more : (p : ℕ) (ds : List ℕ) (i : ℕ) (ts : List ℕ) (v : ℕ) → i < max_rows → v ≡ get_or ds i 0 % p → Reduced p ds i ts
-    → Reduced p ds (i + 1) (set ts i v)
-reduced_more p ds i ts v h e r =
-    record {
-      long = length-set ts i v ∙ r.long;
-      front = λ j l. ⊎_elim (λ a. get_or-set_other ts i j v 0 (omega arith) ∙ r.front j a)
-          (λ a. let q : j ≡ i = omega arith in rw q (get_or-set_same ts i v 0 (omega (arith, r.long)) ∙ e)) (lt_or_ge j i);
-      rest = λ j l. get_or-set_other ts i j v 0 (omega arith) ∙ r.rest j (omega arith);
-    }
-
-pub reduced_all : (p : ℕ) (ds : List ℕ) (i : ℕ) (ts : List ℕ) → length ds ≤ i → Reduced p ds i ts → 0 < p → (j : ℕ)
-    → get_or ts j 0 ≡ get_or ds j 0 % p
-reduced_all p ds i ts h r z j =
-    ⊎_elim (r.front j) (λ a. r.rest j a ∙ sym (ap (λ (x : ℕ). x % p) (get_or-eq_default ds 0 (omega arith)) ∙ mod-eq_of_lt z))
-    (lt_or_ge j i)
 
 -- A table with its delays within the period has the same steps, the same good ones, and puts rows where the table puts them.
 module _ (p l : ℕ) (ds ts : List ℕ) (same : (i : ℕ) → get_or ts i 0 ≡ get_or ds i 0 % p) where

@@ -6,11 +6,8 @@ use lib.ListN.{length}
 use lib.Seq.{take-length}
 use Rattle.console.specs.Printed.{found_lines, offset_lines}
 use Rattle.console.proofs.Lines.{one_more}
-use Rattle.console.proofs.Putting.{as_long, behind, line_end}
+use Rattle.console.proofs.Putting.{behind, line_end}
 use Rattle.console.proofs.found.Goals as goal
-
-pub line-requires : goal.line-requires
-line-requires c = omega (arith, c.requires, c.word.ensures.adds.end, as_long c.word.ensures)
 
 pub loop-offset-init : goal.loop-offset-init
 unfolding offset_lines
@@ -18,10 +15,6 @@ loop-offset-init c = (
   omega (arith, c.word.ensures.adds.end, line_end _ c.line.ensures),
   rw append-nil (behind c.word.ensures c.line.ensures),
 )
-
-pub line-requires-in-loop-offset : goal.line-requires-in-loop-offset
-line-requires-in-loop-offset c =
-    omega (arith, c.requires, c.loop-offset.invariant.0, as_long c.loop-offset.invariant.1, c.loop-offset-test.true)
 
 pub loop-offset-preserved : goal.loop-offset-preserved
 loop-offset-preserved c =

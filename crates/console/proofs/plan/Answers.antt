@@ -1,6 +1,6 @@
 -- In each arm the planner's answer is shown as `planned` says: what it said, with the ceiling as budget.
 use Rattle.std.specs.Prelude.{Ok}
-use mathlib.Core.Path.{sym, ap, ◌∙◌}
+use mathlib.Core.Path.{ap, ◌∙◌}
 use Prim.Native.Nat.{◌≤◌}
 use native.Mathlib.Omega.{arith}
 use lib.ListN.{length}
@@ -8,9 +8,6 @@ use lib.Seq.{length-take-le}
 use Rattle.search.specs.Answer.{said}
 use Rattle.console.proofs.Showing.{planned_as, plan_few}
 use Rattle.console.proofs.plan.Goals as goal
-
-pub slice_bounds-found-end : goal.slice_bounds-found-end
-slice_bounds-found-end c = sym (length-take-le _ _ (omega (arith, c.exact.auto.offsets)))
 
 pub found-requires : goal.found-requires
 found-requires c =

@@ -5,9 +5,6 @@ use Rattle.console.specs.Printed.{refused_line}
 use Rattle.console.proofs.Putting.{as_long, behind, number_end}
 use Rattle.console.proofs.refused.Goals as goal
 
-pub decimal-requires : goal.decimal-requires
-decimal-requires c = omega (arith, c.requires, c.word.ensures.adds.end, as_long c.word.ensures)
-
 pub word-requires-2 : goal.word-requires-2
 word-requires-2 c =
     omega (arith, c.requires, c.word.ensures.adds.end, as_long c.word.ensures, number_end _ c.decimal.ensures, as_long c.decimal.ensures)

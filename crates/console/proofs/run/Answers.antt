@@ -4,7 +4,6 @@ use native.Mathlib.Omega.{arith}
 use lib.Seq.{length-take-le}
 use Rattle.text.specs.Answer.{said}
 use Rattle.console.proofs.Showing.{printed_as_lem, rows_few}
-use borrow.Author.Rules.{rules}
 use Rattle.console.proofs.run.Goals as goal
 use Rattle.console.proofs.run.Goals.{in-Ok, in-Err}
 
@@ -15,12 +14,6 @@ pub slice_bounds-plan-end : goal.slice_bounds-plan-end
 slice_bounds-plan-end c =
     let few = rows_few _ _ _ c.read_table.ensures _ c.in-Ok.is in
     sym (length-take-le _ _ (omega (arith, few, c.read_table.auto.delays)))
-
-pub plan-requires : goal.plan-requires
-plan-requires c =
-    let few = rows_few _ _ _ c.read_table.ensures _ c.in-Ok.is in
-    let all = length-take-le c.in-Ok.table.rows c.read_table.new.delays (omega (arith, few, c.read_table.auto.delays)) in
-    (rw all few, search rules)
 
 pub returns : goal.returns
 unfolding said

@@ -1,15 +1,14 @@
 -- The table is put within the period, the search starts from row 0, and its answer is told in the paper's words.
-use mathlib.Core.Path.{sym, ap, ◌∙◌}
+use mathlib.Core.Path.{ap, ◌∙◌}
 use native.Mathlib.Omega.{arith}
-use lib.Seq.{length-take-le}
 use Rattle.ground.specs.Protocol.{gives}
-use Rattle.link.proofs.Columns.{firsts_length, firsts_take}
+use Rattle.link.proofs.Columns.{firsts_take}
 use Rattle.search.specs.Answer.{outcome}
 use Rattle.search.specs.declared.Hunt.TheVariants.{Found, Nothing}
 use Rattle.search.proofs.Answering.{told_as, ends}
 use Rattle.search.proofs.Boards.{first_firsts, first_seconds}
 use Rattle.search.proofs.Planning.{begin_starts, low_delays, turns_table, is_planned, found_outcome, nothing_outcome}
-use Rattle.search.proofs.Planning.{spent_outcome, in_array}
+use Rattle.search.proofs.Planning.{spent_outcome}
 use Rattle.search.proofs.plan.Goals as goal
 
 pub descend-requires : goal.descend-requires
@@ -19,15 +18,6 @@ descend-requires c = (
       (begin_starts _ _ _ c.requires.0.rows_high
       (low_delays _ _ c.circle-circle.ensures _ c.reduced.result c.requires.0 c.reduced.ensures 0)),
 )
-
-pub slice_bounds-copy_offsets-end : goal.slice_bounds-copy_offsets-end
-slice_bounds-copy_offsets-end c =
-    sym (length-take-le _ _ (in_array (sym (firsts_length c.descend.new.board) ∙ c.descend.ensures.starts.xs_length) c.requires.0.rows_high))
-
-pub copy_offsets-requires : goal.copy_offsets-requires
-copy_offsets-requires c =
-    rw (length-take-le _ _ (in_array (sym (firsts_length c.descend.new.board) ∙ c.descend.ensures.starts.xs_length) c.requires.0.rows_high))
-    c.requires.1
 
 pub overflow_sub-result : goal.overflow_sub-result
 overflow_sub-result c = omega (arith, (ends _ _ _ _ (Found _) (told_as c.in-Found.is c.descend.ensures.descended)).rest)

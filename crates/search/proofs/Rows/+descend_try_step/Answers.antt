@@ -2,7 +2,7 @@
 -- `try_step` goes one row deeper at a good candidate, and puts the row's number back where nothing was found (Trying).
 use mathlib.Core.Path.{sym, ap}
 use mathlib.Core.Bool.{not}
-use Prim.Native.Nat.{◌+◌, ◌-◌, ◌*◌, ◌<◌}
+use Prim.Native.Nat.{◌+◌, ◌*◌, ◌<◌}
 use native.Mathlib.Omega.{arith}
 use Rattle.link.proofs.Columns.{firsts_set, seconds_set}
 use Rattle.ground.proofs.Bools.{never}
@@ -22,19 +22,9 @@ descend-returns-then-unplaced-eq0-clause-descended t c = whole _ _ _ _ c.if-unpl
 pub descend-loop-k-init : goal.descend-loop-k-init
 descend-loop-k-init t c = begins c.requires.0 c.if-unplaced-eq0.false c.requires.1 c.next_step-k.ensures
 
-pub descend-returns-then-left-eq0 : goal.descend-returns-then-left-eq0
-descend-returns-then-left-eq0 t c =
-    record {
-      descended = is_broke c.loop-k.invariant c.loop-k-test.true c.if-left-eq0.true;
-      starts = c.loop-k.invariant.starts;
-    }
-
-pub descend-try_step-requires : goal.descend-try_step-requires
-descend-try_step-requires t c =
-    let h = c.requires.0.rows in
-    let less : (c.args.unplaced - 1) * (candidates + 1) + (candidates - c.loop-k.k) < t = omega arith in
-    let some : 0 < c.loop-k.left = omega arith in
-    (less, (c.requires.0, c.loop-k.invariant.starts, c.loop-k-test.true, c.loop-k.invariant.lands c.loop-k-test.true, some))
+pub descend-returns-then-left-eq0-clause-descended :
+    goal.descend-returns-then-left-eq0-clause-descended
+descend-returns-then-left-eq0-clause-descended t c = is_broke c.loop-k.invariant c.loop-k-test.true c.if-left-eq0.true
 
 pub descend-returns-in_default : goal.descend-returns-in_default
 descend-returns-in_default t c =
@@ -48,12 +38,8 @@ descend-loop-k-preserved t c =
     one_in_vain c.loop-k.invariant c.loop-k-test.true c.in-Nothing.ensures.tried c.in-Nothing.ensures.starts
     c.next_step-k-in-Nothing.ensures
 
-pub descend-returns : goal.descend-returns
-descend-returns t c =
-    record {
-      descended = no_more c.loop-k.invariant c.loop-k-test.false;
-      starts = c.loop-k.invariant.starts;
-    }
+pub descend-returns-clause-descended : goal.descend-returns-clause-descended
+descend-returns-clause-descended t c = no_more c.loop-k.invariant c.loop-k-test.false
 
 pub try_step-returns-then-not-is_free-clause-tried :
     goal.try_step-returns-then-not-is_free-clause-tried

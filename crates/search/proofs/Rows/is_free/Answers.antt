@@ -1,15 +1,12 @@
 use mathlib.Core.Path.{sym, ap, ◌∙◌}
 use mathlib.Core.Bool.{not}
 use native.Mathlib.Omega.{arith}
-use borrow.Author.Count.{below_more, below_none}
+use borrow.Author.Count.{below_more}
 use lib.Seq.{length-take-le}
 use Rattle.ground.proofs.Minimum.{some_at, some_none}
 use Rattle.search.specs.Search.{unblocked}
 use Rattle.search.proofs.Boards.{in_front, met_on}
 use Rattle.search.proofs.Rows.is_free.Goals as goal
-
-pub loop-placed-init : goal.loop-placed-init
-loop-placed-init c = below_none _
 
 pub returns-then-meets : goal.returns-then-meets
 unfolding unblocked

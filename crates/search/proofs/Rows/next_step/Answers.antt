@@ -5,9 +5,6 @@ use Rattle.search.proofs.Boards.{first_on}
 use Rattle.search.proofs.Numbers.{is_step_lem, skip_row, skip_rest, skip_pair}
 use Rattle.search.proofs.Rows.next_step.Goals as goal
 
-pub loop-k-init : goal.loop-k-init
-loop-k-init c = (omega arith, omega arith, λ i a b. absurd (omega arith))
-
 pub loop-k-preserved-then-board-row : goal.loop-k-preserved-then-board-row
 loop-k-preserved-then-board-row c =
     let row = first_on c.args.board.now (c.loop-k.k / (2 * max_rows)) in
@@ -31,7 +28,3 @@ pub loop-k-preserved : goal.loop-k-preserved
 loop-k-preserved c =
     let beside = first_on c.args.board.now (c.loop-k.k / 2 % max_rows) in
     (omega arith, omega arith, skip_pair _ _ _ _ c.loop-k.k c.loop-k.invariant.2 (omega arith))
-
-pub returns : goal.returns
-returns c =
-    record { low = c.loop-k.invariant.0; high = c.loop-k.invariant.1; skipped = c.loop-k.invariant.2; lands = λ q. absurd (omega arith) }

@@ -1,6 +1,6 @@
 -- In crossing 1 the row starts right after the other; in crossing 2 the offset is that start turned back by the delay.
 use mathlib.Core.Path.{sym, ap, ◌∙◌}
-use Prim.Native.Nat.{◌*◌, ◌/◌, ◌%◌}
+use Prim.Native.Nat.{◌/◌, ◌%◌}
 use native.Mathlib.Omega.{arith}
 use lib.ListN.{get_or}
 use Rattle.link.specs.Limits.{max_rows}
@@ -35,9 +35,6 @@ bounds-self-k c =
     let t = c.requires.0 in
     let w = (names_at _ _ _ c.args.k c.requires.2).row_low in
     omega (arith, t)
-
-pub overflow_sub-self : goal.overflow_sub-self
-overflow_sub-self c = omega (arith, c.requires.0.delays (c.args.k / (2 * max_rows)))
 
 pub returns : goal.returns
 returns c =

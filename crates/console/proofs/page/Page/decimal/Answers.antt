@@ -1,15 +1,12 @@
 -- The digits, from the end of the array where they are spelt.
-use mathlib.Core.Path.{refl, ◌∙◌}
+use mathlib.Core.Path.{◌∙◌}
 use Prim.Native.Nat.{◌+◌, ◌-◌, ◌%◌}
 use native.Mathlib.Omega.{arith}
 use lib.ListN.{drop, set, length-set, length-drop}
 use lib.Seq.{take_all}
 use Rattle.console.specs.Printed.{max_digits}
-use Rattle.console.proofs.Spelling.{some_to_spell, begins, ends, goes_on}
+use Rattle.console.proofs.Spelling.{some_to_spell, ends, goes_on}
 use Rattle.console.proofs.page.Page.decimal.Goals as goal
-
-pub loop-rest-init : goal.loop-rest-init
-loop-rest-init c = begins _ _ c.ranges.n.fits refl refl
 
 pub loop-rest-preserved : goal.loop-rest-preserved
 loop-rest-preserved c = goes_on _ _ _ _ (some_to_spell c.loop-rest.invariant) c.if-rest-lt10.false

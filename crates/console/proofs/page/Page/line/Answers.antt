@@ -3,9 +3,6 @@ use native.Mathlib.Omega.{arith}
 use Rattle.console.proofs.Putting.{as_long, behind, number_end}
 use Rattle.console.proofs.page.Page.line.Goals as goal
 
-pub decimal-requires : goal.decimal-requires
-decimal-requires c = omega (arith, c.requires)
-
 pub word-requires : goal.word-requires
 word-requires c = omega (arith, c.requires, number_end _ c.decimal.ensures, as_long c.decimal.ensures)
 
