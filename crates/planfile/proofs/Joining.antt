@@ -13,7 +13,8 @@ use Rattle.planfile.specs.Format.{tag}
 use Rattle.planfile.specs.FileMeaning.{Step, got, stopped, after, Head, header, tag_fault, tagged, rows, Meaning, refused, means}
 use Rattle.ground.specs.Words.{begins}
 use Rattle.planfile.specs.FileMeaning.{closing, rest, body, meaning}
-use Rattle.planfile.specs.Answer.{HeaderRead, headed, InRange, PlanRead, refuses, delivered, rest_gives, ReadGives, Gives, read_gives, IsFileOf}
+use Rattle.planfile.specs.Answer.{HeaderRead, headed, InRange, PlanRead, IsFileOf}
+use Rattle.planfile.specs.Answer.{refuses, delivered, rest_gives, ReadGives, Gives, read_gives}
 use Rattle.planfile.specs.declared.Header.{Header}
 use Rattle.planfile.proofs.Accepting.{headed as header_read}
 use Rattle.planfile.proofs.Promises.{is_file_of}

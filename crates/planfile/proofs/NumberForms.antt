@@ -8,7 +8,8 @@ use lib.Dec.{ltb, eqb}
 use lib.ListN.{length, get_or}
 use borrow.Author.Tests.{le-ltb, eq-eqb, ne_eqb, ltb-false, eqb-true, eqb-false}
 use Rattle.ground.proofs.Bools.{never}
-use Rattle.planfile.specs.Number.{Number, Value, Cut, TooLong, Needless, formed, more_groups, ending, onto, groups_read, read_number, form_fault}
+use Rattle.planfile.specs.Number.{Number, Value, Cut, TooLong, Needless, formed}
+use Rattle.planfile.specs.Number.{more_groups, ending, onto, groups_read, read_number, form_fault}
 use Rattle.planfile.specs.FormFault.{TopBits, NumberFault, cut, too_long, needless}
 use Rattle.planfile.specs.declared.Malformed.{Malformed}
 use Rattle.planfile.specs.declared.Malformed.TheVariants.{Cut as IsCut, TooLong as IsTooLong, Needless as IsNeedless}

@@ -102,7 +102,8 @@ module _ (bs : List ℕ) (v w i : ℕ) (s : Summing bs v w i) where
 
     pub summing_needless : get_or bs i 0 ≡ 0 → 0 < i → Needless ≡ read_number bs
     summing_needless z h =
-        said Needless (zero_after (eqb i 0) _ z (ne_eqb i 0 (λ e. omega arith)) ∙ last_byte (more_groups - i) (eqb i 0) bs i lt (omega arith))
+        said Needless
+        (zero_after (eqb i 0) _ z (ne_eqb i 0 (λ e. omega arith)) ∙ last_byte (more_groups - i) (eqb i 0) bs i lt (omega arith))
 
     module _ (top : 128 ≤ get_or bs i 0) where
       pub summing_too_long : i ≡ more_groups → TooLong ≡ read_number bs

@@ -29,7 +29,8 @@ use Rattle.planfile.specs.Causes.{wrong_tag, cut_off, left_over}
 use Rattle.planfile.specs.Number.{Value, more_groups, limit, number_bytes, read_number}
 use Rattle.planfile.specs.Format.{tag, plan_bytes, place_of}
 use Rattle.planfile.specs.FileMeaning.{got, header, Rows, rows, plan, refused, closing, body, meaning}
-use Rattle.planfile.specs.Answer.{ReadSaid, ReadGives, PlanRead, plan_of, IsFileOf, refuses_read, read_said, Gives, refuses, read_gives, delivered}
+use Rattle.planfile.specs.Answer.{PlanRead, plan_of, IsFileOf, ReadSaid, refuses_read, read_said}
+use Rattle.planfile.specs.Answer.{ReadGives, Gives, refuses, read_gives, delivered}
 use Rattle.planfile.specs.Answer.{WrittenSaid, PlanWritten, written_said, refuses_write, write_faults, write_gives}
 use Rattle.planfile.specs.FormFault.{FormFault, tag_wrong, form_number}
 use Rattle.planfile.proofs.Accepted.{ClearPlan, means_its_plan, added_means, reads_back, AcceptedFile, accepted_file}
@@ -88,7 +89,8 @@ module _ (k : Link) (ds os old : List ℕ) (r : PlanWritten) (new : List ℕ) (w
 
   -- "18 plan to write .. isn't clear", and nothing is written
   pub not_clear_not_written : GoodPlan k ds os → (Clear k.period (span_of k) ds os → ⊥)
-      → (i : ℕ) × (j : ℕ) × (c : ℕ) × FirstCollision k.period (span_of k) ds os i j c × (written_said r ≡ refuses_write not_clear j) × (new ≡ old)
+      → (i : ℕ) × (j : ℕ) × (c : ℕ) × FirstCollision k.period (span_of k) ds os i j c
+      × (written_said r ≡ refuses_write not_clear j) × (new ≡ old)
   not_clear_not_written g n =
       let u = unclear k ds os g n in
       let same = w ∙ sym (write_fault k ds os old not_clear u.0 u.1.judged) in (
@@ -123,8 +125,8 @@ one_plan k k' ds ds' os os' old old' n n' new new' w w' e =
     (cc, cc, cc)
 
 -- every accepted file is the bytes that writing its plan gives,
-pub accepted_is_written : (bs old_d old_o : List ℕ) → Bytes bs → (k : Link) (n : ℕ) (ds os : List ℕ) → Reads bs old_d old_o (plan_of k n) ds os
-    → AcceptedFile bs old_d old_o k n ds os
+pub accepted_is_written : (bs old_d old_o : List ℕ) → Bytes bs → (k : Link) (n : ℕ) (ds os : List ℕ)
+    → Reads bs old_d old_o (plan_of k n) ds os → AcceptedFile bs old_d old_o k n ds os
 accepted_is_written = accepted_file
 
 -- the same as the reader's contract says it,
@@ -136,8 +138,8 @@ is_file_of bs old_d old_o ds os (Ok p) h w =
 
 -- and no two files for one plan
 pub one_file : (bs bs' old_d old_d' old_o old_o' : List ℕ) → Bytes bs → Bytes bs' → (k : Link) (n : ℕ) (ds ds' os os' : List ℕ)
-    → Reads bs old_d old_o (plan_of k n) ds os → Reads bs' old_d' old_o' (plan_of k n) ds' os' → take n ds ≡ take n ds' → take n os ≡ take n os'
-    → bs ≡ bs'
+    → Reads bs old_d old_o (plan_of k n) ds os → Reads bs' old_d' old_o' (plan_of k n) ds' os'
+    → take n ds ≡ take n ds' → take n os ≡ take n os' → bs ≡ bs'
 one_file bs bs' old_d old_d' old_o old_o' h h' k n ds ds' os os' w w' e f =
     is_file_of bs old_d old_o ds os (plan_of k n) h w ∙ rw (e, f) (sym (is_file_of bs' old_d' old_o' ds' os' (plan_of k n) h' w'))
 
@@ -177,8 +179,8 @@ module _ (bs old_d old_o : List ℕ) (h : Bytes bs) (k : Link) (n : ℕ) (ds os 
 
 -- so a file that is refused with another number than 19 is not mended by what is missing: no longer file that begins so is accepted
 pub only_cut_is_mended : (bs old_d old_o : List ℕ) (f : Fault) (ds os : List ℕ) → Reads bs old_d old_o (Err f) ds os
-    → (number_of f.refusal ≡ cut_off → ⊥) → (b : ℕ) (xs old_d' old_o' : List ℕ) → Bytes (bs ++ (b ∷ xs)) → (k : Link) (m : ℕ) (ds' os' : List ℕ)
-    → Reads (bs ++ (b ∷ xs)) old_d' old_o' (plan_of k m) ds' os' → ⊥
+    → (number_of f.refusal ≡ cut_off → ⊥) → (b : ℕ) (xs old_d' old_o' : List ℕ) → Bytes (bs ++ (b ∷ xs))
+    → (k : Link) (m : ℕ) (ds' os' : List ℕ) → Reads (bs ++ (b ∷ xs)) old_d' old_o' (plan_of k m) ds' os' → ⊥
 unfolding read_said
 only_cut_is_mended bs old_d old_o f ds os w other b xs old_d' old_o' h k m ds' os' v =
     let inside : length bs < length (bs ++ (b ∷ xs)) = omega (arith, length-append bs (b ∷ xs)) in

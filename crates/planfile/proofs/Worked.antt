@@ -175,7 +175,8 @@ later_row f =
     ⊎_elim (λ h. ⊎_elim (λ k. absurd (omega arith)) (λ k. absurd (omega (arith, k.0))) (f.least 0 2 _ first_named.collides))
     (λ h. h.0) (first_named.least _ _ _ f.collides)
 
-pub not_written : (r : PlanWritten) (new : List ℕ) → Writes first_link delays others buffer r new → (written_said r ≡ refuses_write 18 2) × (new ≡ buffer)
+pub not_written : (r : PlanWritten) (new : List ℕ) → Writes first_link delays others buffer r new
+    → (written_said r ≡ refuses_write 18 2) × (new ≡ buffer)
 not_written r new w =
     let good = (collision_is_first first_link delays others (Ok (Some rows_0_and_2)) collides rows_0_and_2 refl).0 in
     let v = not_clear_not_written first_link delays others buffer r new w good not_clear in

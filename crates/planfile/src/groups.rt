@@ -1,7 +1,7 @@
 // The number in groups of seven bits, over a slice and a place in it.
-ghost use Rattle.std.specs.Prelude.{◌≡◌, ◌+◌, ◌≤◌, ◌<◌, length, drop};
+ghost use Rattle.std.specs.Prelude.{◌≡◌, ◌+◌, ◌<◌, length, drop};
 ghost use Rattle.ground.specs.Lent.{Adds};
-ghost use Rattle.planfile.specs.Number.{more_groups, limit, groups_read, number_bytes, read_number, number_said};
+ghost use Rattle.planfile.specs.Number.{more_groups, limit, number_bytes, read_number, number_said};
 
 use crate::{Malformed, Number};
 

@@ -1,4 +1,4 @@
-// The reader's steps, over a slice and a place in it.
+// The reader's steps, over a slice and a place in it: the struct that holds both stands above them, in `filereader`.
 ghost use Rattle.std.specs.Prelude.{◌≡◌, ℕ, [], ◌≤◌, ◌<◌, length, take};
 ghost use Rattle.ground.specs.Refusals.{number_of as refusal_number};
 ghost use Rattle.planfile.specs.Bytes.{Bytes};

@@ -1,3 +1,4 @@
+-- What the number's reader says, with the place where it says it.
 use borrow.Author.Rules.{rules}
 use Rattle.ground.specs.Refusals.{number_of}
 use Rattle.planfile.specs.Answer.{taken, taken_as}

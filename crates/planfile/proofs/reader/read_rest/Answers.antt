@@ -12,9 +12,6 @@ returns-in_err-header c =
     let e : c.from_residual.result ≡ Err c.in_err-header.field-0.0 = search rules in
     rw (e, head_refused _ _ _ _ _ _ c.in_err-header.was)
 
-pub read_rows-requires : goal.read_rows-requires
-read_rows-requires c = let in_range = rw c.in_ok-header.was at c.requires in (in_range.0, in_range.1, in_range.1)
-
 pub returns-in_err-end : goal.returns-in_err-end
 unfolding read_said rowsed
 returns-in_err-end c =

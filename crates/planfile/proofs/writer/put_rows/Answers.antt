@@ -1,3 +1,4 @@
+-- Row by row, from the rests of the two lists.
 use mathlib.Core.Logic.{⊎_elim, inl, inr}
 use mathlib.Core.List.{◌∷◌}
 use native.Mathlib.Omega.{arith}
