@@ -65,7 +65,7 @@ impl<'a> Case<'a> {
         list
     }
 
-    // A part, `r n bytes..`: its n bytes r times over, as many as there is room for.
+    // A part, `r n bytes..`: its n bytes r times over, as many as there is room for. What r has past 32 bits is lost.
     fn part(&mut self, room: &mut [u8]) -> usize
         ensures { result ≤ length room.new }
     {
@@ -124,6 +124,7 @@ impl Lent {
     }
 }
 
+// A count, or the room where that is less.
 fn at_most(value: u64, most: usize) -> usize
     ensures { result ≤ most }
 {

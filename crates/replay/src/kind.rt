@@ -1,6 +1,5 @@
-// What a case asks for.
-
-#[derive(Clone, Copy, Debug, PartialEq, Eq)]
+// What a case asks for: a call of the library, or the program `exact` on its input.
+#[derive(Clone, Copy)]
 pub(crate) enum Kind {
     Check,
     FirstFit,
@@ -17,7 +16,7 @@ pub(crate) enum Kind {
 }
 
 // A number that names no kind.
-#[derive(Clone, Copy, Debug, PartialEq, Eq)]
+#[derive(Clone, Copy)]
 pub(crate) struct UnknownKind;
 
 impl TryFrom<u64> for Kind {

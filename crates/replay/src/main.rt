@@ -17,7 +17,7 @@ const LARGE_BUFFER: usize = 65536;
 // 4 megabytes of cases.
 const MOST_BLOCKS: usize = 64;
 
-// The room for a list of rows, for a text or a file, and for the offsets of joined texts: more than the library takes.
+// The room for a list of rows, for a text or a file, and for the offsets of joined texts.
 const ROW_ROOM: usize = 132;
 
 const BYTE_ROOM: usize = 1100;
@@ -43,8 +43,8 @@ fn block(rt: &(impl Input + Print), space: &mut [u8], held: usize) -> usize
     end - rest
 }
 
-// Reads until the buffer is full, the input ends or a read fails, and answers how many bytes there are. The program `exact` has
-// one of its own, since a failed read ends it, and here what came before counts.
+// Reads until the buffer is full, the input ends or a read fails, and answers how many bytes there are.
+// The program `exact` has a function of its own: a failed read ends it, and here what came before counts.
 fn read_full(input: &mut impl Read, buf: &mut [u8]) -> usize
     ensures { result ≤ length buf.new }
 {
@@ -94,7 +94,7 @@ fn answer_kind(rt: &impl Print, kind: Kind, case: Case<'_>) {
     }
 }
 
-// A table and its offsets: checked, or reported.
+// A table and its offsets, for a call that judges them.
 fn table_and_offsets<A, F>(rt: &impl Print, mut case: Case<'_>, mut answer: A, call: F)
 where
     A: AsSlice<u64> + Drop,
@@ -111,7 +111,7 @@ where
     show::answer(rt, answer.as_slice());
 }
 
-// A table and a lent list for its offsets.
+// A table and a lent list for its offsets, for a planner.
 fn table_and_room<F>(rt: &impl Print, mut case: Case<'_>, call: F)
 where
     F: Fn(u32, u32, &[u32], &mut [u32], &mut [u64; 2]) + Drop,
@@ -144,6 +144,7 @@ fn table_and_budget(rt: &impl Print, mut case: Case<'_>) {
     show::list(rt, offsets);
 }
 
+// A number of rows, as it comes in.
 fn ceiling(rt: &impl Print, mut case: Case<'_>) {
     let rows: u64 = case.number();
     show::answer(rt, &[seamwhisk::seamwhisk_ceiling(rows as usize)]);
