@@ -10,14 +10,13 @@ use Rattle.ground.specs.Protocol.{gives, keeping}
 use Rattle.ground.proofs.Answers.{refused, goes_on, Told, stopped, through, told, let_through}
 use Rattle.ground.proofs.Bools.{never}
 use Rattle.ground.proofs.Faults.{hit, pass, fine, front_hit, front_pass}
-use Rattle.link.specs.Limits.{max_rows, bad_length}
+use Rattle.link.specs.Limits.{bad_length}
 use Rattle.link.specs.declared.Link.{Link}
 use Rattle.text.specs.Limits.{max_text, long_text, bytes_after}
 use Rattle.text.specs.Faults.{rows_of, end_of, text_faults, late_faults, read_faults}
 use Rattle.text.specs.Answer.{tabling, refusing, table_link, delays_of, accepted, reading}
 use Rattle.text.specs.TextAnswer.{TextSaid, whole_text, refusing_text, wholly, reading_text}
 use Rattle.text.specs.Steps.{judging, Kept}
-use Rattle.text.proofs.Right.{right}
 
 module _ (x old : List ℕ) where
   pub fault_said : (n p : ℕ) → first (read_faults x (length old)) ≡ Fault n p → gives (refusing n p) old ≡ reading x old
@@ -63,9 +62,6 @@ module _ (x kept : List ℕ) (k : Link) (rows end : ℕ) (w : Kept x (whole_text
         ap (λ (s : TextSaid). s.rows) t.1,
         ap (λ (s : TextSaid). s.end) t.1,
       )
-
-  pub rows_few : rows ≤ max_rows
-  rows_few = let t = whole_told in rw t.2 (right x t.0).few
 
   -- the delays, copied to the front of the list
   copied : (old new : List ℕ) → new ≡ on_front (take rows kept) old → new ≡ on_front (delays_of x (rows_of x)) old

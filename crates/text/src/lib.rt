@@ -8,6 +8,7 @@ pub mod limits;
 
 ghost use Rattle.std.specs.Prelude.{◌≡◌, true, ◌≤◌, length, IfOk, IfErr};
 ghost use Rattle.ground.specs.Protocol.{gives};
+ghost use Rattle.link.specs.Limits.{max_rows};
 ghost use Rattle.text.specs.Answer.{said, reading};
 ghost use Rattle.text.specs.TextAnswer.{text_said, reading_text};
 ghost use Rattle.text.specs.Steps.{head_said, line_said, head_says, second_says, line_says, NumberLine, LineAt, CutAt, Kept, Rows};
@@ -73,7 +74,8 @@ pub fn read_text(text: &[u8], delays: &mut [u32; MAX_ROWS]) -> Result<Text, Faul
 
 // The lines from the start, up to the last one or the first fault. The delays are kept as they come.
 fn read_lines(text: &[u8], kept: &mut [u32; MAX_ROWS]) -> Result<Text, Fault>
-    ensures { Kept text.now (text_said result) kept.new }
+    ensures said { Kept text.now (text_said result) kept.new }
+    ensures few { IfOk result (λ text. text.rows ≤ max_rows) }
 {
     let head = first_lines(text)?;
     read_rows(text, head, kept)
@@ -82,7 +84,8 @@ fn read_lines(text: &[u8], kept: &mut [u32; MAX_ROWS]) -> Result<Text, Fault>
 // The lines behind line two, the first of which begins at `head.at`.
 fn read_rows(text: &[u8], head: Head, kept: &mut [u32; MAX_ROWS]) -> Result<Text, Fault>
     requires { Rows head.link head.at ≡ head_says text.now }
-    ensures { Kept text.now (text_said result) kept.new }
+    ensures said { Kept text.now (text_said result) kept.new }
+    ensures few { IfOk result (λ text. text.rows ≤ max_rows) }
 {
     let mut at = head.at;
     let mut rows: usize = 0;

@@ -7,15 +7,15 @@ use Rattle.text.proofs.read_rows.Goals as goal
 pub loop-next-init : goal.loop-next-init
 loop-next-init c = start _ _ _ c.requires _ c.told-kept
 
-pub returns-in_err-next : goal.returns-in_err-next
+pub returns-in_err-next-clause-said : goal.returns-in_err-next-clause-said
 unfolding text_said
-returns-in_err-next c =
+returns-in_err-next-clause-said c =
     let e : c.from_residual.result ≡ Err c.in_err-next.field-0.0 = search rules in
     rw e (broken _ _ _ _ c.loop-next.invariant _ _ (c.in_err-next.ensures))
 
-pub returns-in-Last : goal.returns-in-Last
+pub returns-in-Last-clause-said : goal.returns-in-Last-clause-said
 unfolding text_said
-returns-in-Last c =
+returns-in-Last-clause-said c =
     whole _ _ _ _ c.loop-next.invariant _ _ (link_there _ _ _ c.requires)
     (rw c.in-Last.is at (c.in_ok-next.ensures))
 
