@@ -51,7 +51,8 @@ pub none_yet : (p l : ℕ) (ds os xs ys : List ℕ) → length xs ≡ max_rows �
 none_yet p l ds os xs ys e f =
     record { first_room = e; second_room = f; firsts = below_none _; seconds = below_none _; none = below_none _ }
 
-module _ (p l : ℕ) (ds os xs ys : List ℕ) (j a b : ℕ) (m : Met) (r : InRange p l ds os) (w : Walked p l ds os xs ys j) (lt : j < length ds) where
+module _ (p l : ℕ) (ds os xs ys : List ℕ) (j a b : ℕ) (m : Met) (r : InRange p l ds os) (w : Walked p l ds os xs ys j)
+    (lt : j < length ds) where
   in_row : (i : ℕ) → i ≤ j → i < length os
   in_row i h = omega (arith, r.as_many)
 

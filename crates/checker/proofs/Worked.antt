@@ -29,18 +29,16 @@ rows_0_and_2 = record { earlier = 0; later = 2; crossing = Second }
 
 -- "First table, offsets 0 2 4: collision of rows 0 and 2 in crossing 2."
 pub collides : said (Ok (Some rows_0_and_2)) ≡ answer link delays (0 ∷ 2 ∷ 4 ∷ [])
-unfolding said found answer first outside and_then link_faults row_faults offset_faults named blocked free met_by met_at first_hit either hits
-    start
-    second meets uses least one_more
+unfolding said found answer first outside and_then link_faults row_faults offset_faults named blocked free met_by met_at first_hit
+    either hits start second meets uses least one_more
 collides = refl
 
 pub first_named : FirstCollision 10 2 delays (0 ∷ 2 ∷ 4 ∷ []) 0 2 2
 first_named = (collision_is_first link delays (0 ∷ 2 ∷ 4 ∷ []) (Ok (Some rows_0_and_2)) collides rows_0_and_2 refl).1
 
 pub clears : said (Ok None) ≡ answer link delays (0 ∷ 2 ∷ 5 ∷ [])
-unfolding said found answer first outside and_then link_faults row_faults offset_faults named blocked free met_by met_at first_hit either hits
-    start
-    second meets uses least one_more
+unfolding said found answer first outside and_then link_faults row_faults offset_faults named blocked free met_by met_at first_hit
+    either hits start second meets uses least one_more
 clears = refl
 
 pub no_two_meet : GoodPlan link delays (0 ∷ 2 ∷ 5 ∷ []) × Clear 10 2 delays (0 ∷ 2 ∷ 5 ∷ [])

@@ -48,10 +48,12 @@ pub pass_found : (cs : List Cause) {r : Judged} (p : ℕ → Bool) (xs : List �
 pass_found cs p xs number e f =
     let none : length xs ≤ position_or_len p xs = at (nat_lt (position_or_len p xs) (length xs)) refl e in
     pass_row cs _ _ number (length xs)
-    (sym (least_at (λ i. p (get_or xs i 0)) (length xs) (length xs) (omega arith) (λ k l. fails_before_first p xs k 0 (omega arith)) (λ l. absurd (omega arith))))
+    (sym (least_at (λ i. p (get_or xs i 0)) (length xs) (length xs) (omega arith)
+    (λ k l. fails_before_first p xs k 0 (omega arith)) (λ l. absurd (omega arith))))
     (omega arith) f
   where
-    at : (b : Bool) → nat_lt (position_or_len p xs) (length xs) ≡ b → cond b (Some (position_or_len p xs)) None ≡ None → length xs ≤ position_or_len p xs
+    at : (b : Bool) → nat_lt (position_or_len p xs) (length xs) ≡ b → cond b (Some (position_or_len p xs)) None ≡ None
+        → length xs ≤ position_or_len p xs
     at true s h = never (cc)
     at false s h = ltb-false _ _ s
 

@@ -6,9 +6,12 @@ use lib.Dec.{eqb}
 use Rattle.ground.specs.Refusals.{number_of}
 use Rattle.ground.specs.declared.Fault.{Fault}
 use Rattle.ground.specs.declared.Refusal.{Refusal}
-use Rattle.ground.specs.declared.Refusal.TheVariants.{LongText, BadLineOne, CutLine, BadLine, BadPeriod, BadSize, BadDelay, BadRows, BadCount}
-use Rattle.ground.specs.declared.Refusal.TheVariants.{BytesAfter, BadLength, TooManyRows, NoOffset, NoBuild, BudgetSpent, WrongTag, BadOffset}
-use Rattle.ground.specs.declared.Refusal.TheVariants.{NotClear, CutFile, LongNumber, NeedlessGroup, LeftOver, LongInput, TooManyTexts, NotOneSlot}
+use Rattle.ground.specs.declared.Refusal.TheVariants.{LongText, BadLineOne, CutLine, BadLine, BadPeriod, BadSize, BadDelay, BadRows}
+use Rattle.ground.specs.declared.Refusal.TheVariants.{BadCount}
+use Rattle.ground.specs.declared.Refusal.TheVariants.{BytesAfter, BadLength, TooManyRows, NoOffset, NoBuild, BudgetSpent, WrongTag}
+use Rattle.ground.specs.declared.Refusal.TheVariants.{BadOffset}
+use Rattle.ground.specs.declared.Refusal.TheVariants.{NotClear, CutFile, LongNumber, NeedlessGroup, LeftOver, LongInput, TooManyTexts}
+use Rattle.ground.specs.declared.Refusal.TheVariants.{NotOneSlot}
 
 abbrev up_to_9 : ℕ → Refusal → Refusal
 up_to_9 n more =

@@ -1,9 +1,12 @@
 -- The refusals by their numbers, and what the judging of a call says as one of them.
 use Rattle.std.specs.Prelude.{ℕ, Result, Ok, Err}
 use Rattle.ground.specs.declared.Refusal.{Refusal}
-use Rattle.ground.specs.declared.Refusal.TheVariants.{LongText, BadLineOne, CutLine, BadLine, BadPeriod, BadSize, BadDelay, BadRows, BadCount}
-use Rattle.ground.specs.declared.Refusal.TheVariants.{BytesAfter, BadLength, TooManyRows, NoOffset, NoBuild, BudgetSpent, WrongTag, BadOffset}
-use Rattle.ground.specs.declared.Refusal.TheVariants.{NotClear, CutFile, LongNumber, NeedlessGroup, LeftOver, LongInput, TooManyTexts, NotOneSlot}
+use Rattle.ground.specs.declared.Refusal.TheVariants.{LongText, BadLineOne, CutLine, BadLine, BadPeriod, BadSize, BadDelay, BadRows}
+use Rattle.ground.specs.declared.Refusal.TheVariants.{BadCount}
+use Rattle.ground.specs.declared.Refusal.TheVariants.{BytesAfter, BadLength, TooManyRows, NoOffset, NoBuild, BudgetSpent, WrongTag}
+use Rattle.ground.specs.declared.Refusal.TheVariants.{BadOffset}
+use Rattle.ground.specs.declared.Refusal.TheVariants.{NotClear, CutFile, LongNumber, NeedlessGroup, LeftOver, LongInput, TooManyTexts}
+use Rattle.ground.specs.declared.Refusal.TheVariants.{NotOneSlot}
 use Rattle.ground.specs.declared.Fault.{Fault as Refused}
 use Rattle.ground.specs.Judging.{Judged, Fine, Fault}
 

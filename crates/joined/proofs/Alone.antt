@@ -35,7 +35,8 @@ module _ (ts : List (List ℕ)) (z : List ℕ) (all : AllAccepted ts) (budget : 
 
   -- once the first m texts are answered, text t of them holds its answer
   pub holds : (m : ℕ) → m ≤ max_texts → ((t : ℕ) → t < m → is_left x t ≡ false) → (t : ℕ) → t < m → t < length ts
-      → (n : ℕ) (a : Result Answer Refused) (plan : List ℕ) → Alone (get_or ts t []) budget n a plan → Holds l (lists_to x budget m l) t n a plan
+      → (n : ℕ) (a : Result Answer Refused) (plan : List ℕ) → Alone (get_or ts t []) budget n a plan
+      → Holds l (lists_to x budget m l) t n a plan
   unfolding read_said
   holds m few going t h within n a plan w =
       let y = text x budget l t in

@@ -96,7 +96,8 @@ module _ (x : List ℕ) (at : ℕ) where
     unfolding step_gives fault_from
     wrong_step n p s e f = rw (f, rw is at e, length-drop at x) (split l (ltb max_text (length x - at)) n p _)
 
-    pub next_step : (k : Link) (rows end : ℕ) (old kept : List ℕ) (a : Result Answer Refused) (numbers offsets : List ℕ) → WholeText y k rows end old kept
+    pub next_step : (k : Link) (rows end : ℕ) (old kept : List ℕ) (a : Result Answer Refused) (numbers offsets : List ℕ)
+        → WholeText y k rows end old kept
         → gives (searched_said a) offsets ≡ exactly k (take rows kept) budget l.offsets
         → numbers ≡ on_front (answer_as (searched_said a) rows) l.answers
         → gives (Next (at + end)) (lists numbers offsets) ≡ step_gives x at budget l

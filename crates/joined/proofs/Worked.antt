@@ -77,7 +77,8 @@ refused_so x l n j r m e = ap (λ (o : Outcome Said Lists). o.says) (e ∙ sym (
 pub record Promised : Type 0 where
   -- two texts, each with the whole budget of 3
   pub both : (r : Run) (m : Lists) → gives (said r) m ≡ planning (joined_of (copies 2)) 3 lent
-      → (r ≡ Ok 2) × Holds lent m 0 3 (Ok (Plan 3)) (0 ∷ 2 ∷ 5 ∷ 9 ∷ []) × Holds lent m 1 3 (Ok (Plan 3)) (0 ∷ 2 ∷ 5 ∷ 9 ∷ []) × KeptFrom 2 lent m
+      → (r ≡ Ok 2) × Holds lent m 0 3 (Ok (Plan 3)) (0 ∷ 2 ∷ 5 ∷ 9 ∷ []) × Holds lent m 1 3 (Ok (Plan 3)) (0 ∷ 2 ∷ 5 ∷ 9 ∷ [])
+      × KeptFrom 2 lent m
   -- the text and `x`: what is answered are accepted texts
   pub each : (r : Run) (m : Lists) → gives (said r) m ≡ planning (text ++ 120 ∷ []) 3 lent → AnswersTexts (text ++ 120 ∷ []) 3 lent r m
   -- "Empty input holds no text and gets no answers."
@@ -92,7 +93,8 @@ pub record Promised : Type 0 where
   pub first_stands : (r : Run) (m : Lists) → gives (said r) m ≡ planning (joined_of (copies 1) ++ 120 ∷ []) 3 lent
       → (1 ≤ (said r).texts) × Holds lent m 0 3 (Ok (Plan 3)) (0 ∷ 2 ∷ 5 ∷ 9 ∷ [])
   -- 32 texts and `x`: 24 at byte 736
-  pub one_more : (r : Run) (m : Lists) → gives (said r) m ≡ planning (joined_of (copies 32) ++ 120 ∷ []) 3 lent → said r ≡ stopping 32 24 736
+  pub one_more : (r : Run) (m : Lists) → gives (said r) m ≡ planning (joined_of (copies 32) ++ 120 ∷ []) 3 lent
+      → said r ≡ stopping 32 24 736
   -- the second with its byte 10 between 3 and 7 lost: 9 at its byte 16, as alone
   pub second_damaged : (r : Run) (m : Lists) → gives (said r) m ≡ planning (joined_of (copies 1) ++ (front ++ back)) 3 lent
       → said r ≡ stopping 1 9 16

@@ -45,7 +45,8 @@ pub record Holds (old new : Lists) (t n : ℕ) (a : Result Answer Fault) (plan :
 -- each of the first texts has the answer that it gets alone in its places
 abbrev pub AsAlone : List (List ℕ) → ℕ → Lists → Lists → Type 0
 AsAlone ts budget old new =
-    (t : ℕ) → t < length ts → (n : ℕ) (a : Result Answer Fault) (plan : List ℕ) → Alone (get_or ts t []) budget n a plan → Holds old new t n a plan
+    (t : ℕ) → t < length ts → (n : ℕ) (a : Result Answer Fault) (plan : List ℕ) → Alone (get_or ts t []) budget n a plan
+    → Holds old new t n a plan
 
 -- the places behind those of the first t texts are as they were
 pub record KeptFrom (t : ℕ) (old new : Lists) : Type 0 where

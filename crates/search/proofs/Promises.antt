@@ -33,7 +33,8 @@ use Rattle.search.proofs.Thinning.{shorter_plan, fewer_plan}
 use Rattle.search.proofs.Verdicts.{unsaid, again, Planned, means, plan_answers, none_answers, says_same}
 
 -- "Show that no second answer satisfies it": nor a second content of the list
-pub no_second : (k : Link) (ds : List ℕ) (budget : ℕ) (old : List ℕ) (r s : Result Answer Fault) (new other : List ℕ) → Answers k ds budget old r new
+pub no_second : (k : Link) (ds : List ℕ) (budget : ℕ) (old : List ℕ) (r s : Result Answer Fault) (new other : List ℕ)
+    → Answers k ds budget old r new
     → Answers k ds budget old s other → (r ≡ s) × (new ≡ other)
 no_second k ds budget old r s new other a b = no_second_outcome said unsaid again {r = r} {s = s} a b
 
@@ -75,7 +76,8 @@ pub clear_plan_never_none : (k : Link) (ds os : List ℕ) → ClearChoice k ds o
 clear_plan_never_none k ds os c budget old t new a = none_means_none k ds budget old t new a os c
 
 -- "A lent buffer longer than needed keeps its tail. Every refusal and every verdict but a plan leaves all output buffers .."
-pub tail_kept : (k : Link) (ds : List ℕ) (budget : ℕ) (old : List ℕ) (r : Result Answer Fault) (new : List ℕ) → Answers k ds budget old r new
+pub tail_kept : (k : Link) (ds : List ℕ) (budget : ℕ) (old : List ℕ) (r : Result Answer Fault) (new : List ℕ)
+    → Answers k ds budget old r new
     → new ≡ on_front (given r (length ds) new) old
 tail_kept k ds budget old (Ok (Plan t)) new a =
     let w = means k ds budget old (Ok (Plan t)) new a in
@@ -96,7 +98,8 @@ larger_budget_same k ds budget larger old old' r s new new' h room d a b =
     let_through : Accepted k ds (length old) → Accepted k ds (length old')
     let_through g = record { table = g.table; room = room; few = g.few }
 
-    same : (r : Result Answer Fault) → Decided r → Answers k ds budget old r new → (s ≡ r) × (given s (length ds) new' ≡ given r (length ds) new)
+    same : (r : Result Answer Fault) → Decided r → Answers k ds budget old r new
+        → (s ≡ r) × (given s (length ds) new' ≡ given r (length ds) new)
     same (Ok (Plan t)) d a =
         let w = means k ds budget old (Ok (Plan t)) new a in
         let q = plan_answers k ds larger old' (let_through w.good) w.offsets t w.is (omega (arith, w.within_budget)) in
@@ -111,7 +114,8 @@ larger_budget_same k ds budget larger old old' r s new new' h room d a b =
     same (Err f) d a = absurd d
 
 -- The lent list does not matter: with room in both, two calls at one budget give the same answer and the same offsets.
-pub any_list_same : (k : Link) (ds : List ℕ) (budget : ℕ) (old old' : List ℕ) (r s : Result Answer Fault) (new new' : List ℕ) → length ds ≤ length old
+pub any_list_same : (k : Link) (ds : List ℕ) (budget : ℕ) (old old' : List ℕ) (r s : Result Answer Fault) (new new' : List ℕ)
+    → length ds ≤ length old
     → length ds ≤ length old' → Answers k ds budget old r new → Answers k ds budget old' s new'
     → (s ≡ r) × (given s (length ds) new' ≡ given r (length ds) new)
 any_list_same k ds budget old old' r s new new' room room' a b = (e, same r e a)
@@ -128,7 +132,8 @@ any_list_same k ds budget old old' r s new new' room room' a b = (e, same r e a)
     same (Err f) e a = rw e
 
 -- "a number that tests never passes"
-pub tests_below_ceiling : (k : Link) (ds : List ℕ) (budget : ℕ) (old : List ℕ) (r : Result Answer Fault) (new : List ℕ) → Answers k ds budget old r new
+pub tests_below_ceiling : (k : Link) (ds : List ℕ) (budget : ℕ) (old : List ℕ) (r : Result Answer Fault) (new : List ℕ)
+    → Answers k ds budget old r new
     → (said r).tests ≤ ceiling_up_to (length ds)
 unfolding said ceiling_up_to
 tests_below_ceiling k ds budget old (Ok (Plan t)) new a =
@@ -168,7 +173,10 @@ plan_exactly_when_clear k ds budget old r new e h a = (λ w. there r w.0 w.1 a, 
     there (Err f) os c b = let q = (means k ds budget old (Err f) new b).fault in never (cc)
 
     back : (t : ℕ) → r ≡ Ok (Plan t) → (os : List ℕ) × ClearChoice k ds os
-    back t q = (take (length ds) new, plan_is_clear k ds budget old t new (subst (λ (x : Result Answer Fault). Answers k ds budget old x new) q a))
+    back t q = (
+      take (length ds) new,
+      plan_is_clear k ds budget old t new (subst (λ (x : Result Answer Fault). Answers k ds budget old x new) q a),
+    )
 
 module _ (k : Link) (ds : List ℕ) (budget : ℕ) (old : List ℕ) (t : ℕ) (new : List ℕ) (a : Answers k ds budget old (Ok (Plan t)) new) where
   -- "Where a table got a plan, the same table with shorter messages .. never gets "none" at any budget."

@@ -88,11 +88,13 @@ module _ (k : Link) (ds : List ℕ) (budget : ℕ) (old : List ℕ) where
       ended : (o : Out) → planned k ds ≡ o → Accepted k ds (length old) → gives (said r) new ≡ outcome budget (length ds) old o
           → Means r new
       ended (found s t) e g f =
-          ⊎_elim (λ h. is (Ok (Spent budget)) old (f ∙ rw (lt-ltb budget t h)) (λ q. record { good = g; all = refl; above = rw e h; left = q }))
+          ⊎_elim (λ h. is (Ok (Spent budget)) old (f ∙ rw (lt-ltb budget t h))
+          (λ q. record { good = g; all = refl; above = rw e h; left = q }))
           (λ h. is (Ok (Plan t)) (on_front (take (length ds) s) old) (f ∙ rw (le-ltb budget t h))
           (λ q. record { good = g; offsets = s; is = e; within_budget = h; left = q })) (lt_or_ge budget t)
       ended (none t) e g f =
-          ⊎_elim (λ h. is (Ok (Spent budget)) old (f ∙ rw (lt-ltb budget t h)) (λ q. record { good = g; all = refl; above = rw e h; left = q }))
+          ⊎_elim (λ h. is (Ok (Spent budget)) old (f ∙ rw (lt-ltb budget t h))
+          (λ q. record { good = g; all = refl; above = rw e h; left = q }))
           (λ h. is (Ok (Nothing t)) old (f ∙ rw (le-ltb budget t h)) (λ q. record { good = g; is = e; within_budget = h; left = q }))
           (lt_or_ge budget t)
 
@@ -144,14 +146,18 @@ says_same k ds budget old old' room room' =
     go (Fault n p) = refl
 
 -- there is an answer to every call
-pub some_answer : (k : Link) (ds : List ℕ) (budget : ℕ) (old : List ℕ) → (r : Result Answer Refused) × (said r ≡ (exactly k ds budget old).says)
+pub some_answer : (k : Link) (ds : List ℕ) (budget : ℕ) (old : List ℕ)
+    → (r : Result Answer Refused) × (said r ≡ (exactly k ds budget old).says)
 unfolding said exactly outcome within
 some_answer k ds budget old = judged (first (exact_faults k ds (length old))) refl
   where
     ended : (o : Out) → (r : Result Answer Refused) × (said r ≡ (outcome budget (length ds) old o).says)
-    ended (found s t) = ⊎_elim (λ h. (Ok (Spent budget), rw (lt-ltb budget t h))) (λ h. (Ok (Plan t), rw (le-ltb budget t h))) (lt_or_ge budget t)
-    ended (none t) = ⊎_elim (λ h. (Ok (Spent budget), rw (lt-ltb budget t h))) (λ h. (Ok (Nothing t), rw (le-ltb budget t h))) (lt_or_ge budget t)
+    ended (found s t) =
+        ⊎_elim (λ h. (Ok (Spent budget), rw (lt-ltb budget t h))) (λ h. (Ok (Plan t), rw (le-ltb budget t h))) (lt_or_ge budget t)
+    ended (none t) =
+        ⊎_elim (λ h. (Ok (Spent budget), rw (lt-ltb budget t h))) (λ h. (Ok (Nothing t), rw (le-ltb budget t h))) (lt_or_ge budget t)
 
-    judged : (j : Judged) → first (exact_faults k ds (length old)) ≡ j → (r : Result Answer Refused) × (said r ≡ (unless (keeping refusing old) j (searched k ds budget old)).says)
+    judged : (j : Judged) → first (exact_faults k ds (length old)) ≡ j
+        → (r : Result Answer Refused) × (said r ≡ (unless (keeping refusing old) j (searched k ds budget old)).says)
     judged Fine e = ended (planned k ds)
     judged (Fault n p) e = (Err (refused n p), rw (named_first k ds (length old) n p e) refl)

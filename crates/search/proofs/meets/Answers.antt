@@ -13,4 +13,5 @@ returns-then-not-apart c = rw (lt-ltb _ _ c.if-placed-circle.true, ← c.apart.e
 
 pub returns-else-not-apart : goal.returns-else-not-apart
 unfolding blocked
-returns-else-not-apart c = rw (lt-ltb _ _ c.if-placed-circle.true, ← c.apart.ensures, ← c.apart-else-not-apart.ensures, c.if-not-apart.false)
+returns-else-not-apart c =
+    rw (lt-ltb _ _ c.if-placed-circle.true, ← c.apart.ensures, ← c.apart-else-not-apart.ensures, c.if-not-apart.false)

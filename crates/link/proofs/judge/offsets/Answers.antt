@@ -14,8 +14,12 @@ returns-then-offsets-delays c = hit _ _ _ _ (ap not (ne_eqb _ _ c.if-offsets-del
 
 pub returns-in-Some : goal.returns-in-Some
 unfolding offset_faults
-returns-in-Some c = pass _ _ _ _ (ap not (eq-eqb _ _ c.if-offsets-delays.false)) (hit_found [] (λ x. leb c.args.link.period x) c.args.offsets.now _ _ (sym c.in-Some.ensures))
+returns-in-Some c =
+    pass _ _ _ _ (ap not (eq-eqb _ _ c.if-offsets-delays.false))
+    (hit_found [] (λ x. leb c.args.link.period x) c.args.offsets.now _ _ (sym c.in-Some.ensures))
 
 pub returns : goal.returns
 unfolding offset_faults
-returns c = pass _ _ _ _ (ap not (eq-eqb _ _ c.if-offsets-delays.false)) (pass_found _ (λ x. leb c.args.link.period x) c.args.offsets.now _ (sym c.in_default.ensures) fine)
+returns c =
+    pass _ _ _ _ (ap not (eq-eqb _ _ c.if-offsets-delays.false))
+    (pass_found _ (λ x. leb c.args.link.period x) c.args.offsets.now _ (sym c.in_default.ensures) fine)

@@ -16,8 +16,12 @@ returns-then-n-eq0 c =
 
 pub returns-in-Some : goal.returns-in-Some
 unfolding row_faults
-returns-in-Some c = pass _ _ _ _ (inside _ _ _ (omega arith) (omega arith)) (hit_found [] (λ x. ltb max_delay x) c.args.delays.now _ _ (sym c.in-Some.ensures))
+returns-in-Some c =
+    pass _ _ _ _ (inside _ _ _ (omega arith) (omega arith))
+    (hit_found [] (λ x. ltb max_delay x) c.args.delays.now _ _ (sym c.in-Some.ensures))
 
 pub returns : goal.returns
 unfolding row_faults
-returns c = pass _ _ _ _ (inside _ _ _ (omega arith) (omega arith)) (pass_found _ (λ x. ltb max_delay x) c.args.delays.now _ (sym c.in_default.ensures) fine)
+returns c =
+    pass _ _ _ _ (inside _ _ _ (omega arith) (omega arith))
+    (pass_found _ (λ x. ltb max_delay x) c.args.delays.now _ (sym c.in_default.ensures) fine)

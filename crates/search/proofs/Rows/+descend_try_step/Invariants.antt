@@ -17,7 +17,9 @@ abbrev pub decreases-try_step : goal.decreases-try_step
 decreases-try_step l = l.unplaced * (candidates + 1) + (candidates - l.k)
 
 abbrev pub invariant-descend-loop-k : goal.invariant-descend-loop-k
-invariant-descend-loop-k l = Going l.self.circle.period l.self.circle.span l.self.delays l.self.count l.unplaced l.budget (firsts l.fn.board) (firsts l.board) (seconds l.board) l.left l.k
+invariant-descend-loop-k l =
+    Going l.self.circle.period l.self.circle.span l.self.delays l.self.count l.unplaced l.budget
+    (firsts l.fn.board) (firsts l.board) (seconds l.board) l.left l.k
 
 abbrev pub decreases-descend-loop-k : goal.decreases-descend-loop-k
 decreases-descend-loop-k l = l.self.count * (2 * max_rows) - l.k

@@ -10,4 +10,5 @@ use Rattle.search.proofs.Rows.is_free.Given as goal
 abbrev pub invariant-loop-placed : goal.invariant-loop-placed
 invariant-loop-placed l =
     (k : ℕ) → k < l.placed-index
-    → blocked l.self.circle.period l.self.circle.span l.new.first l.new.second (get_or (firsts l.board) k 0) (get_or (seconds l.board) k 0) ≡ false
+    → blocked l.self.circle.period l.self.circle.span l.new.first l.new.second
+    (get_or (firsts l.board) k 0) (get_or (seconds l.board) k 0) ≡ false
