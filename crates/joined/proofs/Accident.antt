@@ -8,10 +8,8 @@ use lib.Dec.{ltb, leb}
 use lib.ListN.{length, get_or, take, drop, take-append-drop, length-append}
 use lib.Seq.{take_all, take-append-add}
 use borrow.Author.Tests.{leb-true, le-ltb, ne_eqb}
-use Rattle.ground.specs.Judging.{first, and_then}
+use Rattle.ground.specs.Judging.{Judged, Fine, Fault, first, and_then}
 use Rattle.ground.specs.Protocol.{Outcome, gives, keeping, unless}
-use Rattle.ground.specs.Judging.{Judged}
-use Rattle.ground.specs.Judging.{Fine, Fault}
 use Rattle.ground.proofs.Answers.{Told, stopped, through, told}
 use Rattle.ground.proofs.Faults.{pass, front_hit, front_pass, all_numbers, number_of}
 use Rattle.ground.proofs.Bools.{never}
@@ -20,9 +18,8 @@ use Rattle.link.specs.declared.Link.{Link}
 use Rattle.text.specs.Limits.{max_text, long_text, cut_line}
 use Rattle.text.specs.Bytes.{newline}
 use Rattle.text.specs.Faults.{text_faults, rows_of, end_of, late_faults, read_faults}
-use Rattle.text.specs.Answer.{Said, refusing, accepted, reading, table_link, delays_of}
+use Rattle.text.specs.Answer.{table, refusal, Said, refusing, accepted, reading, table_link, delays_of}
 use Rattle.text.specs.Writing.{glue, text_of}
-use Rattle.text.proofs.Saying.{unsaid}
 use Rattle.text.proofs.Taken.{begins_with_its_text}
 use Rattle.text.proofs.Behind.{fault_stands}
 use Rattle.text.proofs.Lost.{lost_in_front}
@@ -90,7 +87,7 @@ own_lines z old n p new short low e = judged (told (keeping refusing old) (first
         lines (first (text_faults z)) refl
         (pass _ _ long_text 0 (le-ltb max_text (length z) short) refl ∙ f
         ∙ ap (λ (o : Outcome Said (List ℕ)). Fault o.says.number o.says.place) (sym g))
-    judged (through f g) = never (cc (ap (λ (o : Outcome Said (List ℕ)). unsaid o.says) g))
+    judged (through f g) = let v : refusal ≡ table = ap (λ (o : Outcome Said (List ℕ)). o.says.verdict) g in never cc
 
 -- another fault than 3 is not split
 not_split : (b : Bool) (n p : ℕ) → (n ≡ cut_line → ⊥) → split_cut Fault b n p ≡ Fault n p

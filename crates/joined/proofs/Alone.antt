@@ -5,16 +5,16 @@ use mathlib.Core.List.{List, [], ◌++◌}
 use Prim.Native.Nat.{ℕ, ◌≤◌, ◌<◌}
 use native.Mathlib.Omega.{arith}
 use lib.ListN.{length, get_or, take}
+use Rattle.std.specs.Prelude.{Result}
 use Rattle.ground.specs.Lent.{on_front, block}
+use Rattle.ground.specs.declared.Fault.{Fault}
 use Rattle.link.specs.Limits.{max_rows}
 use Rattle.link.specs.declared.Link.{Link}
 use Rattle.text.specs.Faults.{rows_of}
-use Rattle.text.specs.Answer.{said as read_said, table_link, delays_of}
+use Rattle.text.specs.Answer.{table_link, delays_of}
 use Rattle.text.proofs.Promises.{accepted_is_the_text}
 use Rattle.search.specs.Answer.{Said as Searched, said as searched_said, Answers, given}
 use Rattle.search.specs.declared.Answer.{Answer}
-use Rattle.std.specs.Prelude.{Result}
-use Rattle.ground.specs.declared.Fault.{Fault as Refused}
 use Rattle.search.proofs.Promises.{any_list_same}
 use Rattle.search.proofs.Verdicts.{some_answer}
 use Rattle.joined.specs.Limits.{max_texts}
@@ -25,7 +25,7 @@ use Rattle.joined.proofs.Filled.{text, lent, outcome_of, answer_of, answered_so,
 use Rattle.joined.proofs.Joining.{read_as}
 
 -- one table under two names
-same_table : (k k' : Link) (ds ds' : List ℕ) (budget : ℕ) (old : List ℕ) (r : Result Answer Refused) (new : List ℕ) → k ≡ k' → ds ≡ ds'
+same_table : (k k' : Link) (ds ds' : List ℕ) (budget : ℕ) (old : List ℕ) (r : Result Answer Fault) (new : List ℕ) → k ≡ k' → ds ≡ ds'
     → Answers k ds budget old r new → Answers k' ds' budget old r new
 same_table k k' ds ds' budget old r new e f a = a ∙ rw (e, f)
 
@@ -35,9 +35,8 @@ module _ (ts : List (List ℕ)) (z : List ℕ) (all : AllAccepted ts) (budget : 
 
   -- once the first m texts are answered, text t of them holds its answer
   pub holds : (m : ℕ) → m ≤ max_texts → ((t : ℕ) → t < m → is_left x t ≡ false) → (t : ℕ) → t < m → t < length ts
-      → (n : ℕ) (a : Result Answer Refused) (plan : List ℕ) → Alone (get_or ts t []) budget n a plan
+      → (n : ℕ) (a : Result Answer Fault) (plan : List ℕ) → Alone (get_or ts t []) budget n a plan
       → Holds l (lists_to x budget m l) t n a plan
-  unfolding read_said
   holds m few going t h within n a plan w =
       let y = text x budget l t in
       let c = accepted_is_the_text (get_or ts t []) w.old (record { link = w.link; rows = n }) w.new w.read in

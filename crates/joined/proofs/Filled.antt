@@ -4,14 +4,14 @@ use mathlib.Core.Bool.{false}
 use mathlib.Core.List.{List, [], ◌++◌, append-nil}
 use Prim.Native.Nat.{ℕ, suc, ◌*◌, ◌≤◌, ◌<◌}
 use native.Mathlib.Omega.{arith}
+use Rattle.std.specs.Prelude.{Result, Ok, Err}
 use lib.Dec.{leb}
 use lib.ListN.{length, take, drop, length-drop, length-take}
 use lib.Seq.{length-take-le, drop-length}
-use Rattle.ground.specs.Judging.{first}
+use Rattle.ground.specs.Judging.{Judged, Fine, Fault, first}
 use Rattle.ground.specs.Lent.{on_front, block}
 use Rattle.ground.specs.Protocol.{Outcome, gives}
-use Rattle.ground.specs.Judging.{Judged}
-use Rattle.ground.specs.Judging.{Fine, Fault}
+use Rattle.ground.specs.declared.Fault.{Fault as Refused}
 use Rattle.ground.proofs.Blocks.{Series, blocks, behind, long}
 use Rattle.ground.proofs.Bools.{or_none, never}
 use Rattle.link.specs.Limits.{max_rows}
@@ -22,8 +22,6 @@ use Rattle.text.proofs.Values.{length_delays}
 use Rattle.search.specs.Answer.{Said as Searched, Answers, given}
 use Rattle.search.specs.declared.Answer.{Answer}
 use Rattle.search.specs.declared.Answer.TheVariants.{Plan, Nothing, Spent}
-use Rattle.std.specs.Prelude.{Result, Ok, Err}
-use Rattle.ground.specs.declared.Fault.{Fault as Refused}
 use Rattle.search.proofs.Promises.{tail_kept}
 use Rattle.search.proofs.Verdicts.{some_answer}
 use Rattle.joined.specs.Limits.{max_texts, answer_size}

@@ -13,7 +13,6 @@ use Rattle.ground.proofs.Bools.{clash, lt_or_ge}
 use Rattle.ground.proofs.Minimum.{least_is}
 use Rattle.link.specs.Range.{GoodTable}
 use Rattle.link.specs.declared.Link.{Link}
-use Rattle.text.specs.Answer.{said as read_said}
 use Rattle.text.specs.Limits.{max_text}
 use Rattle.text.specs.Faults.{end_of}
 use Rattle.text.specs.Writing.{glue, text_of}
@@ -58,7 +57,6 @@ pub record TableText (y : List ℕ) : Type 0 where
   pub text : y ≡ text_of link delays
 
 pub table_text : (y : List ℕ) → Accepted y → TableText y
-unfolding read_said
 table_text y a =
     let w = accepted_is_the_text y a.old (record { link = a.link; rows = a.rows }) a.new a.read in
     record { link = a.link; delays = take a.rows a.new; good = w.good; text = w.text }

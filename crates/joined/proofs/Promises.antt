@@ -5,34 +5,47 @@ use mathlib.Core.List.{List, [], ◌∷◌, ◌++◌, append-nil}
 use Prim.Native.Nat.{ℕ, suc, ◌*◌, ◌≤◌, ◌<◌}
 use native.Mathlib.Omega.{arith}
 use lib.ListN.{length, drop, length-append}
+use Rattle.std.specs.Prelude.{Result, Ok, Err}
 use Rattle.ground.specs.Protocol.{gives}
-use Rattle.ground.proofs.Answers.{no_second_outcome}
+use Rattle.ground.specs.Refusals.{number_of}
+use Rattle.ground.specs.declared.Fault.{Fault}
+use Rattle.ground.specs.declared.Refusal.TheVariants.{TooManyTexts}
+use Rattle.ground.proofs.Answers.{no_second as one_said, no_second_outcome}
 use Rattle.link.specs.Limits.{max_rows}
 use Rattle.text.specs.Limits.{max_text, cut_line}
 use Rattle.text.specs.Bytes.{newline}
-use Rattle.text.specs.Answer.{refusing, reading}
+use Rattle.text.specs.Answer.{said as read_said, reading}
 use Rattle.text.proofs.Texts.{text_short}
-use Rattle.joined.specs.Limits.{max_texts, answer_size, too_many_texts}
+use Rattle.joined.specs.Limits.{max_texts, answer_size}
 use Rattle.joined.specs.Texts.{begin_of, answered}
-use Rattle.std.specs.Prelude.{Ok}
-use Rattle.joined.specs.Answer.{Run, said, stopping, Lists, planning}
+use Rattle.joined.specs.Answer.{said, stopping, Lists, planning}
 use Rattle.joined.specs.Meaning.{joined_of, Accepted, AllAccepted, AsAlone, KeptFrom, Fits, AnswersTexts}
-use Rattle.joined.proofs.Answers.{unsaid, again}
+use Rattle.joined.specs.declared.Stopped.{Stopped}
+use Rattle.joined.proofs.Answers.{unsaid, again, stopped_so}
 use Rattle.joined.proofs.Joining.{table_text, all_answered}
 use Rattle.joined.proofs.Splitting.{front}
 use Rattle.joined.proofs.Running.{count, going, few, kept, as_alone, all_done, stopped_by, one_too_many}
 use Rattle.joined.proofs.Accident.{some_byte, lost_fault, own_fault, fault_before}
 
 -- "Show that no second answer satisfies it": nor a second content of the lists
-pub no_second : (x : List ℕ) (budget : ℕ) (l : Lists) (r s : Run) (m other : Lists) → gives (said r) m ≡ planning x budget l
+pub no_second : (x : List ℕ) (budget : ℕ) (l : Lists) (r s : Result ℕ Stopped) (m other : Lists) → gives (said r) m ≡ planning x budget l
     → gives (said s) other ≡ planning x budget l → (r ≡ s) × (m ≡ other)
 no_second x budget l r s m other = no_second_outcome said unsaid again
+
+-- the answer of a run that this fault stopped behind these texts
+abbrev pub stopped_at : List (List ℕ) → Fault → Result ℕ Stopped
+stopped_at ts q = Err (record { texts = length ts; fault = q })
+
+stopped_is : (r : Result ℕ Stopped) (ts : List (List ℕ)) (q : Fault) → said r ≡ stopping (length ts) (number_of q.refusal) q.place
+    → r ≡ stopped_at ts q
+unfolding said
+stopped_is r ts q e = one_said said unsaid again {r = r} {s = stopped_at ts q} e refl
 
 -- "Answer each, in order, exactly as reading it and running the exact planner answer on that text alone, with the whole budget": whatever
 -- the input, what is answered are accepted texts in front of it, each with the answer that it gets alone; every other place of both lists
 -- is as it was.
-pub each_as_alone : (x : List ℕ) (budget : ℕ) (l : Lists) → Fits x l → (r : Run) (m : Lists) → gives (said r) m ≡ planning x budget l
-    → AnswersTexts x budget l r m
+pub each_as_alone : (x : List ℕ) (budget : ℕ) (l : Lists) → Fits x l → (r : Result ℕ Stopped) (m : Lists)
+    → gives (said r) m ≡ planning x budget l → AnswersTexts x budget l r m
 each_as_alone x budget l f r m e =
     let w = front x (answered x) (going x budget l f r m e) in
     let z = drop (begin_of x (answered x)) x in
@@ -65,7 +78,7 @@ joined_short (y ∷ ys) all =
 -- So up to 32 accepted texts, joined, get as many answers.
 pub joined_as_alone : (ts : List (List ℕ)) → AllAccepted ts → length ts ≤ max_texts → (budget : ℕ) (l : Lists)
     → answer_size * max_texts ≤ length l.answers → max_rows * max_texts ≤ length l.offsets
-    → (r : Run) (m : Lists) → gives (said r) m ≡ planning (joined_of ts) budget l
+    → (r : Result ℕ Stopped) (m : Lists) → gives (said r) m ≡ planning (joined_of ts) budget l
     → (r ≡ Ok (length ts)) × AsAlone ts budget l m × KeptFrom (length ts) l m
 joined_as_alone ts all most budget l a o r m e =
     let n = append-nil (joined_of ts) in
@@ -73,7 +86,7 @@ joined_as_alone ts all most budget l a o r m e =
     all_done ts [] all most budget l f r m (e ∙ ap (λ (x : List ℕ). planning x budget l) (sym n)) refl
 
 module _ (ts : List (List ℕ)) (z : List ℕ) (all : AllAccepted ts) (most : length ts ≤ max_texts) (budget : ℕ) (l : Lists)
-    (f : Fits (joined_of ts ++ z) l) (r : Run) (m : Lists) (e : gives (said r) m ≡ planning (joined_of ts ++ z) budget l) where
+    (f : Fits (joined_of ts ++ z) l) (r : Result ℕ Stopped) (m : Lists) (e : gives (said r) m ≡ planning (joined_of ts ++ z) budget l) where
   -- "the answers before it stand": whatever follows accepted texts, their answers are those that they get alone
   pub front_as_alone : (length ts ≤ (said r).texts) × AsAlone ts budget l m
   front_as_alone = (
@@ -83,36 +96,45 @@ module _ (ts : List (List ℕ)) (z : List ℕ) (all : AllAccepted ts) (most : le
 
   -- "24 where a thirty-third text begins, with that byte of the input, after the 32 answers": whatever stands there
   pub thirty_third : length ts ≡ max_texts → 1 ≤ length z
-      → (said r ≡ stopping (length ts) too_many_texts (length (joined_of ts))) × AsAlone ts budget l m × KeptFrom (length ts) l m
-  thirty_third h some = one_too_many ts z all most budget l f r m e some (omega arith)
+      → (r ≡ stopped_at ts (record { refusal = TooManyTexts; place = length (joined_of ts) })) × AsAlone ts budget l m
+      × KeptFrom (length ts) l m
+  unfolding said
+  thirty_third h some =
+      let s = one_too_many ts z all most budget l f r m e some (omega arith) in
+      (stopped_is r ts (record { refusal = TooManyTexts; place = length (joined_of ts) }) s.0, s.1, s.2)
 
   -- "At the first text fault stop, and give that text's index with its own place": where the last text is one that `read_table` refuses
   -- alone, with 1 to 9, the run stops at it with the same number and place
-  pub fault_as_alone : length ts < max_texts → 1 ≤ length z → length z ≤ max_text → (old : List ℕ) (n p : ℕ) (new : List ℕ) → n < 10
-      → gives (refusing n p) new ≡ reading z old
-      → (said r ≡ stopping (length ts) n p) × AsAlone ts budget l m × KeptFrom (length ts) l m
-  fault_as_alone h some short old n p new low g =
-      stopped_by ts z all most budget l f r m e some n p h (own_fault ts z all old n p new short low g)
+  pub fault_as_alone : length ts < max_texts → 1 ≤ length z → length z ≤ max_text → (old : List ℕ) (q : Fault) (new : List ℕ)
+      → number_of q.refusal < 10 → gives (read_said (Err q)) new ≡ reading z old
+      → (r ≡ stopped_at ts q) × AsAlone ts budget l m × KeptFrom (length ts) l m
+  unfolding read_said
+  fault_as_alone h some short old q new low g =
+      let s = stopped_by ts z all most budget l f r m e some _ _ h (own_fault ts z all old _ _ new short low g) in
+      (stopped_is r ts q s.0, s.1, s.2)
 
 -- Where other bytes follow it, this holds of each number but 3, which says that its line does not end: with bytes behind it, it may.
 pub fault_before_others : (ts : List (List ℕ)) (y z : List ℕ) → AllAccepted ts → length ts < max_texts → 1 ≤ length y → length y ≤ max_text
-    → (budget : ℕ) (l : Lists) → Fits (joined_of ts ++ (y ++ z)) l → (r : Run) (m : Lists)
+    → (budget : ℕ) (l : Lists) → Fits (joined_of ts ++ (y ++ z)) l → (r : Result ℕ Stopped) (m : Lists)
     → gives (said r) m ≡ planning (joined_of ts ++ (y ++ z)) budget l
-    → (old : List ℕ) (n p : ℕ) (new : List ℕ) → n < 10 → (n ≡ cut_line → ⊥) → gives (refusing n p) new ≡ reading y old
-    → (said r ≡ stopping (length ts) n p) × AsAlone ts budget l m × KeptFrom (length ts) l m
-fault_before_others ts y z all h some short budget l f r m e old n p new low other g =
-    stopped_by ts (y ++ z) all (omega arith) budget l f r m e (omega (arith, length-append y z)) n p h
-    (fault_before ts y z all old n p new short low other g)
+    → (old : List ℕ) (q : Fault) (new : List ℕ) → number_of q.refusal < 10 → (number_of q.refusal ≡ cut_line → ⊥)
+    → gives (read_said (Err q)) new ≡ reading y old → (r ≡ stopped_at ts q) × AsAlone ts budget l m × KeptFrom (length ts) l m
+unfolding read_said
+fault_before_others ts y z all h some short budget l f r m e old q new low other g =
+    let s = stopped_by ts (y ++ z) all (omega arith) budget l f r m e (omega (arith, length-append y z)) _ _ h
+    (fault_before ts y z all old _ _ new short low other g) in
+    (stopped_is r ts q s.0, s.1, s.2)
 
 -- Two rows are never joined into one: where one of the texts has lost one byte 10, wherever it stood, the run stops at that text, and the
 -- texts before it have their answers.
 pub lost_newline : (ts after : List (List ℕ)) (a b : List ℕ) → AllAccepted ts → Accepted (a ++ newline ∷ b) → AllAccepted after
-    → length ts < max_texts → (budget : ℕ) (l : Lists) → Fits (joined_of ts ++ ((a ++ b) ++ joined_of after)) l → (r : Run) (m : Lists)
-    → gives (said r) m ≡ planning (joined_of ts ++ ((a ++ b) ++ joined_of after)) budget l
-    → (n : ℕ) × (p : ℕ) × (said r ≡ stopping (length ts) n p) × AsAlone ts budget l m × KeptFrom (length ts) l m
+    → length ts < max_texts → (budget : ℕ) (l : Lists) → Fits (joined_of ts ++ ((a ++ b) ++ joined_of after)) l
+    → (r : Result ℕ Stopped) (m : Lists) → gives (said r) m ≡ planning (joined_of ts ++ ((a ++ b) ++ joined_of after)) budget l
+    → (q : Fault) × (r ≡ stopped_at ts q) × AsAlone ts budget l m × KeptFrom (length ts) l m
 lost_newline ts after a b all y rest h budget l f r m e =
     let z = (a ++ b) ++ joined_of after in
     let w = lost_fault ts after a b all y rest in
     let some : 1 ≤ length z = omega (arith, length-append (a ++ b) (joined_of after), some_byte a b y) in
     let s = stopped_by ts z all (omega arith) budget l f r m e some w.0 w.1 h w.2 in
-    (w.0, w.1, s.0, s.1, s.2)
+    let q = stopped_so r (length ts) w.0 w.1 s.0 in
+    (q.0, q.1, s.1, s.2)

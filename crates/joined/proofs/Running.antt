@@ -4,26 +4,27 @@ use mathlib.Core.Bool.{true, false}
 use mathlib.Core.List.{List, [], ◌++◌}
 use Prim.Native.Nat.{ℕ, ◌≤◌, ◌<◌}
 use native.Mathlib.Omega.{arith}
+use Rattle.std.specs.Prelude.{Result, Ok}
 use lib.Dec.{leb}
 use lib.ListN.{length, length-append, length-drop}
 use borrow.Author.Tests.{le-leb, lt-leb}
 use Rattle.ground.specs.Protocol.{Outcome, gives, unless}
-use Rattle.ground.specs.Judging.{Judged}
-use Rattle.ground.specs.Judging.{Fine, Fault}
+use Rattle.ground.specs.Judging.{Judged, Fine, Fault}
 use Rattle.ground.proofs.Answers.{no_second as one_said}
 use Rattle.ground.proofs.Minimum.{least_is, least_at}
 use Rattle.joined.specs.Limits.{max_texts, too_many_texts}
 use Rattle.joined.specs.Texts.{begin_of, fault_from, is_left, answered, stop_at}
-use Rattle.std.specs.Prelude.{Ok}
-use Rattle.joined.specs.Answer.{Run, Said, said, all_of, stopping, Lists, lists_to, running, planning}
+use Rattle.joined.specs.Answer.{Said, said, all_of, stopping, Lists, lists_to, running, planning}
 use Rattle.joined.specs.Meaning.{joined_of, AllAccepted, AsAlone, KeptFrom, Fits}
+use Rattle.joined.specs.declared.Stopped.{Stopped}
 use Rattle.joined.proofs.Answers.{unsaid, again, runs}
 use Rattle.joined.proofs.Filled.{rest_kept}
 use Rattle.joined.proofs.Joining.{goes_on, all_answered, behind_all}
 use Rattle.joined.proofs.Alone.{holds}
 
 -- what any call that fits tells
-module _ (x : List ℕ) (budget : ℕ) (l : Lists) (f : Fits x l) (r : Run) (m : Lists) (e : gives (said r) m ≡ planning x budget l) where
+module _ (x : List ℕ) (budget : ℕ) (l : Lists) (f : Fits x l) (r : Result ℕ Stopped) (m : Lists)
+    (e : gives (said r) m ≡ planning x budget l) where
   leaves : m ≡ lists_to x budget (answered x) l
   unfolding running
   leaves = ap (λ (o : Outcome Said Lists). o.leaves) (e ∙ runs x budget l f)
@@ -52,7 +53,7 @@ module _ (x : List ℕ) (budget : ℕ) (l : Lists) (f : Fits x l) (r : Run) (m :
   kept = rw leaves (rest_kept x budget l (answered x) few going f.answers f.plans)
 
 module _ (ts : List (List ℕ)) (z : List ℕ) (all : AllAccepted ts) (most : length ts ≤ max_texts) (budget : ℕ) (l : Lists)
-    (f : Fits (joined_of ts ++ z) l) (r : Run) (m : Lists) (e : gives (said r) m ≡ planning (joined_of ts ++ z) budget l) where
+    (f : Fits (joined_of ts ++ z) l) (r : Result ℕ Stopped) (m : Lists) (e : gives (said r) m ≡ planning (joined_of ts ++ z) budget l) where
   abbrev x : List ℕ
   x = joined_of ts ++ z
 

@@ -12,7 +12,7 @@ use Rattle.link.specs.Range.{GoodTable}
 use Rattle.link.specs.declared.Link.{Link}
 use Rattle.text.specs.Limits.{max_text}
 use Rattle.text.specs.Faults.{end_of, rows_of}
-use Rattle.text.specs.Answer.{table_link, delays_of}
+use Rattle.text.specs.Answer.{said as read_said, table_link, delays_of}
 use Rattle.text.specs.Writing.{text_of}
 use Rattle.text.proofs.Texts.{text_accepted}
 use Rattle.text.proofs.Taken.{begins_with_its_text}
@@ -22,6 +22,7 @@ use Rattle.joined.proofs.Filled.{answered_fine}
 
 -- the text of a good table is accepted
 good_accepted : (k : Link) (ds : List ℕ) → GoodTable k ds → Accepted (text_of k ds)
+unfolding read_said
 good_accepted k ds g = record { link = k; rows = length ds; old = ds; new = _; read = text_accepted k ds ds g (omega arith) }
 
 -- one more text behind joined ones

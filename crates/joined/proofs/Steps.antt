@@ -5,72 +5,47 @@ use mathlib.Core.List.{List}
 use mathlib.Core.Logic.{⊎_elim}
 use Prim.Native.Nat.{ℕ, ◌+◌, ◌-◌, ◌≤◌, ◌<◌, min}
 use native.Mathlib.Omega.{arith}
+use Rattle.std.specs.Prelude.{Result}
 use lib.Dec.{ltb, eqb}
 use lib.ListN.{length, take, drop, length-drop, length-take}
 use lib.Seq.{take_all}
-use borrow.Author.Tests.{lt-ltb, le-ltb}
-use Rattle.ground.specs.Judging.{first}
+use Rattle.ground.specs.Judging.{Judged, Fine, Fault, first}
 use Rattle.ground.specs.Lent.{on_front}
 use Rattle.ground.specs.Protocol.{Outcome, gives, keeping, unless}
-use Rattle.ground.specs.Judging.{Judged}
-use Rattle.ground.specs.Judging.{Fine, Fault}
-use Rattle.ground.proofs.Answers.{goes_on}
+use Rattle.ground.proofs.Answers.{refused, goes_on}
 use Rattle.ground.proofs.Bools.{lt_or_ge, never}
 use Rattle.ground.proofs.Filling.{middle_part}
 use Rattle.link.specs.declared.Link.{Link}
 use Rattle.text.specs.Limits.{max_text, long_text, cut_line}
 use Rattle.text.specs.Faults.{text_faults}
 use Rattle.search.specs.Answer.{Said as Searched, said as searched_said, exactly}
+use Rattle.ground.specs.Refusals.{number_of, fault_of}
+use Rattle.ground.specs.declared.Fault.{Fault as Refused}
 use Rattle.search.specs.declared.Answer.{Answer}
 use Rattle.joined.specs.Texts.{text_from, split_cut, fault_from, is_fault}
 use Rattle.joined.specs.Answer.{Lists, lists, answer_as, plan_of, in_front}
-use Rattle.joined.specs.Steps.{Step, Next, Wrong, step_gives}
-use Rattle.std.specs.Prelude.{Result}
-use Rattle.ground.specs.declared.Fault.{Fault as Refused}
+use Rattle.joined.specs.Steps.{Next, Wrong, step_gives}
 use Rattle.joined.proofs.Told.{WholeText}
 
 -- the first 1,024 bytes, or all that there are
-pub first_bytes : (x : List ℕ) (at r : ℕ) → r ≡ cond (ltb max_text (length x - at)) max_text (length x - at)
+pub first_bytes : (x : List ℕ) (at r : ℕ) → r ≡ min (length x - at) max_text
     → take (at + r - at) (drop at x) ≡ text_from x at
 first_bytes x at r e = middle_part x at r (at + r) refl ∙ ⊎_elim many few (lt_or_ge max_text (length x - at))
   where
     many : max_text < length x - at → take r (drop at x) ≡ take max_text (drop at x)
-    many h = let n : r ≡ max_text = e ∙ rw (lt-ltb _ _ h) in rw n
+    many h = let n : r ≡ max_text = omega (arith, e) in rw n
 
     few : length x - at ≤ max_text → take r (drop at x) ≡ take max_text (drop at x)
     few h =
-        let n : r ≡ length x - at = e ∙ rw (le-ltb _ _ h) in
+        let n : r ≡ length x - at = omega (arith, e) in
         take_all r (drop at x) (omega (arith, length-drop at x)) ∙ sym (take_all max_text (drop at x) (omega (arith, length-drop at x)))
 
--- at most so many, as std says it
-pub capped : (n most r : ℕ) → r ≡ min n most → r ≡ cond (ltb most n) most n
-capped n most r e =
-    ⊎_elim (λ h. rw (lt-ltb most n h) (omega arith)) (λ h. rw (le-ltb most n h) (omega arith)) (lt_or_ge most n)
-
 -- a text ends within the input
-pub ends_inside : (x : List ℕ) (at r : ℕ) → r ≡ cond (ltb max_text (length x - at)) max_text (length x - at)
+pub ends_inside : (x : List ℕ) (at r : ℕ) → r ≡ min (length x - at) max_text
     → (end : ℕ) → end ≤ length (take (at + r - at) (drop at x)) → end ≤ length x - at
 ends_inside x at r e end h =
     let n = ap length (first_bytes x at r e) in
     omega (arith, n, length-take max_text (drop at x), length-drop at x)
-
--- a fault of its lines is split, and nothing else happens
-split : (old : Lists) (b : Bool) (n p : ℕ) (o : Outcome Step Lists)
-    → gives (split_cut Wrong b n p) old ≡ unless (keeping Wrong old) (split_cut Fault b n p) o
-split old b n p o = go (b && eqb n cut_line)
-  where
-    go : (c : Bool) → gives (cond c (Wrong long_text 0) (Wrong n p)) old
-        ≡ unless (keeping Wrong old) (cond c (Fault long_text 0) (Fault n p)) o
-    go true = refl
-    go false = refl
-
--- a fault that is split, as one text's answer
-pub split_wrong : (b : Bool) (n p m q : ℕ) → Fault m q ≡ split_cut Fault b n p → Wrong m q ≡ split_cut Wrong b n p
-split_wrong b n p m q e = go (b && eqb n cut_line) e
-  where
-    go : (c : Bool) → Fault m q ≡ cond c (Fault long_text 0) (Fault n p) → Wrong m q ≡ cond c (Wrong long_text 0) (Wrong n p)
-    go true h = cc
-    go false h = cc
 
 never_fine : (c : Bool) (n p : ℕ) → cond c (Fault long_text 0) (Fault n p) ≡ Fine → ⊥
 never_fine true n p e = never (cc (ap is_fault e))
@@ -91,10 +66,13 @@ module _ (x : List ℕ) (at : ℕ) where
 
   -- y was read as the text there
   module _ (budget : ℕ) (l : Lists) (y : List ℕ) (is : y ≡ text_from x at) where
-    pub wrong_step : (n p : ℕ) (s : Step) → first (text_faults y) ≡ Fault n p → s ≡ split_cut Wrong (ltb max_text (length x - at)) n p
-        → gives s l ≡ step_gives x at budget l
+    pub wrong_step : (n p : ℕ) (f : Refused) → first (text_faults y) ≡ Fault n p
+        → fault_of f ≡ split_cut Fault (ltb max_text (length x - at)) n p
+        → gives (Wrong (number_of f.refusal) f.place) l ≡ step_gives x at budget l
     unfolding step_gives fault_from
-    wrong_step n p s e f = rw (f, rw is at e, length-drop at x) (split l (ltb max_text (length x - at)) n p _)
+    wrong_step n p f e g =
+        let here : fault_from x at ≡ fault_of f = rw (rw is at e, length-drop at x) (sym g) in
+        refused (keeping Wrong l) _ here
 
     pub next_step : (k : Link) (rows end : ℕ) (old kept : List ℕ) (a : Result Answer Refused) (numbers offsets : List ℕ)
         → WholeText y k rows end old kept

@@ -5,20 +5,15 @@ use Prim.Native.Nat.{ℕ, suc, ◌≤◌}
 use native.Mathlib.Omega.{arith}
 use lib.ListN.{length, take, drop, length-append}
 use lib.Seq.{take_at}
-use Rattle.ground.specs.Judging.{first}
+use Rattle.ground.specs.Judging.{Fine, Fault, first}
 use Rattle.ground.specs.Protocol.{Outcome, gives, keeping}
-use Rattle.ground.specs.Judging.{Fine, Fault}
 use Rattle.ground.proofs.Answers.{Told, stopped, through, told, let_through}
 use Rattle.ground.proofs.Bools.{never}
 use Rattle.link.specs.Limits.{max_rows}
 use Rattle.link.specs.declared.Link.{Link}
 use Rattle.text.specs.Faults.{text_faults, rows_of, end_of}
 use Rattle.text.specs.Answer.{table_link, delays_of}
-use Rattle.text.specs.TextAnswer.{TextSaid, TextVerdict, whole, refusal, refusing_text, text_said, wholly, reading_text}
-use Rattle.text.specs.declared.Text.{Text}
-use Rattle.std.specs.Prelude.{Result, Ok, Err}
-use Rattle.ground.specs.declared.Fault.{Fault as Refused}
-use Rattle.ground.specs.Refusals.{number_of}
+use Rattle.text.specs.TextAnswer.{TextSaid, TextVerdict, whole, refusal, whole_text, refusing_text, wholly, reading_text}
 use Rattle.text.proofs.Right.{right}
 use Rattle.text.proofs.Values.{length_delays}
 use Rattle.text.proofs.Walk.{ended_low}
@@ -42,14 +37,14 @@ abbrev is_whole : Outcome TextSaid (List ℕ) → ℕ
 is_whole o = wholes o.says.verdict
 
 module _ (y old new : List ℕ) where
-  pub whole_told : (r : Result Text Refused) (t : Text) → r ≡ Ok t → gives (text_said r) new ≡ reading_text y old
-      → WholeText y t.link t.rows t.end old new
-  unfolding reading_text text_said wholly end_of
-  whole_told r t i e =
-      let w = let_through (keeping refusing_text old) (first (text_faults y)) (λ n p f. never (sym (ap is_whole f))) (rw i at e) in
+  pub whole_told : (k : Link) (rows end : ℕ) → gives (whole_text k rows end) new ≡ reading_text y old
+      → WholeText y k rows end old new
+  unfolding reading_text wholly end_of
+  whole_told k rows end e =
+      let w = let_through (keeping refusing_text old) (first (text_faults y)) (λ n p f. never (sym (ap is_whole f))) e in
       let good = right y w.0 in
-      let n : t.rows ≡ rows_of y = ap (λ (o : Outcome TextSaid (List ℕ)). o.says.rows) w.1 in
-      let l : t.end ≡ end_of y = ap (λ (o : Outcome TextSaid (List ℕ)). o.says.end) w.1 in
+      let n : rows ≡ rows_of y = ap (λ (o : Outcome TextSaid (List ℕ)). o.says.rows) w.1 in
+      let l : end ≡ end_of y = ap (λ (o : Outcome TextSaid (List ℕ)). o.says.end) w.1 in
       record {
         fine = w.0;
         link = ap (λ (o : Outcome TextSaid (List ℕ)). o.says.link) w.1;
@@ -68,12 +63,11 @@ module _ (y old new : List ℕ) where
         inside = rw l (ended_low y (suc (suc (rows_of y))) (good.whole (suc (suc (rows_of y))) (omega arith)));
       }
 
-  pub fault_told : (r : Result Text Refused) (f : Refused) → r ≡ Err f → gives (text_said r) new ≡ reading_text y old
-      → first (text_faults y) ≡ Fault (number_of f.refusal) f.place
-  unfolding reading_text text_said wholly
-  fault_told r x i e = go (told (keeping refusing_text old) (first (text_faults y)) (rw i at e))
+  pub fault_told : (n p : ℕ) → gives (refusing_text n p) new ≡ reading_text y old → first (text_faults y) ≡ Fault n p
+  unfolding reading_text wholly
+  fault_told n p e = go (told (keeping refusing_text old) (first (text_faults y)) e)
     where
-      go : Told (keeping refusing_text old) (first (text_faults y)) (wholly y old) (gives (refusing_text (number_of x.refusal) x.place) new)
-          → first (text_faults y) ≡ Fault (number_of x.refusal) x.place
+      go : Told (keeping refusing_text old) (first (text_faults y)) (wholly y old) (gives (refusing_text n p) new)
+          → first (text_faults y) ≡ Fault n p
       go (stopped m q f g) = f ∙ ap (λ (o : Outcome TextSaid (List ℕ)). Fault o.says.number o.says.place) (sym g)
       go (through f g) = never (ap is_whole g)

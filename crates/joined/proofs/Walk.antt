@@ -11,8 +11,7 @@ use lib.ListN.{length, take, drop, take-append-drop, length-drop, length-take}
 use borrow.Rule.Slice.PartMut.{put_mid, same_len_mid}
 use borrow.Author.Tests.{le-leb, lt-leb}
 use Rattle.ground.specs.Protocol.{Outcome, gives, keeping}
-use Rattle.ground.specs.Judging.{Judged}
-use Rattle.ground.specs.Judging.{Fine, Fault}
+use Rattle.ground.specs.Judging.{Judged, Fine, Fault}
 use Rattle.ground.proofs.Answers.{Told, stopped, through, told, let_through}
 use Rattle.ground.proofs.Bools.{lt_or_ge, never}
 use Rattle.ground.proofs.Filling.{tail_part}
@@ -148,18 +147,11 @@ module _ (x : List ℕ) (budget : ℕ) (l : Lists) (at t : ℕ) (m : Lists) (w :
 
   module _ (g : t < max_texts) where
     -- text t has its places in both lists
-    pub answer_room : answer_size * t + answer_size ≤ length m.answers
+    answer_room : answer_size * t + answer_size ≤ length m.answers
     answer_room = omega (arith, w.answers_kept, w.answers_room)
 
-    pub plan_room : max_rows * t + max_rows ≤ length m.offsets
+    plan_room : max_rows * t + max_rows ≤ length m.offsets
     plan_room = omega (arith, w.offsets_kept, w.offsets_room)
-
-    pub lent_room : (at ≤ length x) × (answer_size ≤ length (lent_from t m).answers) × (max_rows ≤ length (lent_from t m).offsets)
-    lent_room = (
-      w.inside,
-      omega (arith, answer_room, ap (λ (n : Lists). length n.answers) (lent_is t m), length-drop (answer_size * t) m.answers),
-      omega (arith, plan_room, ap (λ (n : Lists). length n.offsets) (lent_is t m), length-drop (max_rows * t) m.offsets),
-    )
 
     module _ (rest : Lists) where
       given_back : back_from t m rest ≡ put_back t m rest
@@ -177,22 +169,22 @@ module _ (x : List ℕ) (budget : ℕ) (l : Lists) (at t : ℕ) (m : Lists) (w :
         there = lt-leb (length x) (begin_of x t) (omega (arith, w.place))
 
         -- text t has a fault
-        pub fault_here : (s : Step) (n p : ℕ) → s ≡ Wrong n p → gives s rest ≡ step_gives x at budget (lent_from t m)
+        pub fault_here : (n p : ℕ) → gives (Wrong n p) rest ≡ step_gives x at budget (lent_from t m)
             → gives (stopping t n p) (back_from t m rest) ≡ running x budget l
         unfolding running stop_at is_left
-        fault_here s n p i e =
-            let f = told_fault x at budget (from_text t m) rest n p (rw i at e ∙ ap (step_gives x at budget) (lent_is t m)) in
+        fault_here n p e =
+            let f = told_fault x at budget (from_text t m) rest n p (e ∙ ap (step_gives x at budget) (lent_is t m)) in
             let j : fault_from x (begin_of x t) ≡ Fault n p = ap (fault_from x) (sym w.place) ∙ f.0 in
             rw (stops_here (λ _. rw (there, j)), there, lt-leb max_texts t g, j)
             (ap (gives (stopping t n p)) (given_back ∙ ap (put_back t m) f.1 ∙ unchanged t m ∙ w.so_far))
 
         -- text t is answered
-        pub next : (s : Step) (to : ℕ) → s ≡ Next to → length rest.answers ≡ length (lent_from t m).answers
-            → length rest.offsets ≡ length (lent_from t m).offsets → gives s rest ≡ step_gives x at budget (lent_from t m)
+        pub next : (to : ℕ) → length rest.answers ≡ length (lent_from t m).answers
+            → length rest.offsets ≡ length (lent_from t m).offsets → gives (Next to) rest ≡ step_gives x at budget (lent_from t m)
             → Walked x budget l to (t + 1) (back_from t m rest)
         unfolding begin_of is_left
-        next s to i c d e =
-            let f = told_next x at budget (from_text t m) rest to (rw i at e ∙ ap (step_gives x at budget) (lent_is t m)) in
+        next to c d e =
+            let f = told_next x at budget (from_text t m) rest to (e ∙ ap (step_gives x at budget) (lent_is t m)) in
             let y = (begins_with_its_text (text_from x at) (fine_back x at f.0)).inside in
             let j : fault_from x (begin_of x t) ≡ Fine = ap (fault_from x) (sym w.place) ∙ f.0 in
             rw add-one

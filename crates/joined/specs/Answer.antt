@@ -3,13 +3,13 @@ use Rattle.std.specs.Prelude.{◌||◌, List, [], ◌∷◌, ◌++◌, ℕ, zero
 use Rattle.ground.specs.Judging.{Cause, first, when}
 use Rattle.ground.specs.Lent.{on_front}
 use Rattle.ground.specs.Protocol.{Outcome, gives, keeping, unless}
+use Rattle.ground.specs.Refusals.{number_of}
 use Rattle.link.specs.Limits.{max_rows, bad_length}
 use Rattle.text.specs.Faults.{rows_of}
 use Rattle.text.specs.Answer.{table_link, delays_of}
 use Rattle.search.specs.Answer.{Said as Searched, exactly}
 use Rattle.joined.specs.Limits.{max_texts, max_joined, answer_size, long_input}
 use Rattle.joined.specs.Texts.{text_from, begin_of, answered, stop_at}
-use Rattle.ground.specs.Refusals.{number_of}
 use Rattle.joined.specs.declared.Stopped.{Stopped}
 
 -- every text was answered, or a refusal stopped the run
@@ -30,11 +30,7 @@ all_of t = record { verdict = all; number = 0; place = 0; texts = t }
 abbrev pub stopping : ℕ → ℕ → ℕ → Said
 stopping t n p = record { verdict = refusal; number = n; place = p; texts = t }
 
--- as the code says it: how many texts were answered, which are all; or what stopped the run
-abbrev pub Run : Type 0
-Run = Result ℕ Stopped
-
-unfoldable pub said : Run → Said
+unfoldable pub said : Result ℕ Stopped → Said
 said (Ok t) = all_of t
 said (Err s) = stopping s.texts (number_of s.fault.refusal) s.fault.place
 

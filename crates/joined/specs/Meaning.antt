@@ -1,15 +1,16 @@
 -- What the answers mean: each is the one that its text gets alone.
-use Rattle.std.specs.Prelude.{◌≡◌, List, [], ◌∷◌, ◌++◌, ℕ, ◌*◌, ◌≤◌, ◌<◌, length, get_or, take, drop, Result}
+use Rattle.std.specs.Prelude.{◌≡◌, List, [], ◌∷◌, ◌++◌, ℕ, ◌*◌, ◌≤◌, ◌<◌, length, get_or, take, drop, Result, Ok}
 use Rattle.ground.specs.Lent.{on_front, block}
 use Rattle.ground.specs.Protocol.{gives}
+use Rattle.ground.specs.declared.Fault.{Fault}
 use Rattle.link.specs.Limits.{max_rows}
 use Rattle.link.specs.declared.Link.{Link}
-use Rattle.text.specs.Answer.{tabling, reading}
+use Rattle.text.specs.Answer.{said as read_said, reading}
 use Rattle.search.specs.Answer.{said as searched_said, Answers, given}
 use Rattle.search.specs.declared.Answer.{Answer}
-use Rattle.ground.specs.declared.Fault.{Fault}
 use Rattle.joined.specs.Limits.{max_texts, max_joined, answer_size}
-use Rattle.joined.specs.Answer.{Run, said, Lists, answer_as}
+use Rattle.joined.specs.declared.Stopped.{Stopped}
+use Rattle.joined.specs.Answer.{said, Lists, answer_as}
 
 -- "texts joined end to end"
 unfoldable pub joined_of : List (List ℕ) → List ℕ
@@ -22,7 +23,7 @@ pub record Accepted (y : List ℕ) : Type 0 where
   pub rows : ℕ
   pub old : List ℕ
   pub new : List ℕ
-  pub read : gives (tabling link rows) new ≡ reading y old
+  pub read : gives (read_said (Ok (record { link = link; rows = rows }))) new ≡ reading y old
 
 abbrev pub AllAccepted : List (List ℕ) → Type 0
 AllAccepted ts = (t : ℕ) → t < length ts → Accepted (get_or ts t [])
@@ -32,7 +33,7 @@ pub record Alone (y : List ℕ) (budget n : ℕ) (a : Result Answer Fault) (plan
   pub link : Link
   pub old : List ℕ
   pub new : List ℕ
-  pub read : gives (tabling link n) new ≡ reading y old
+  pub read : gives (read_said (Ok (record { link = link; rows = n }))) new ≡ reading y old
   pub lent : List ℕ
   pub room : n ≤ length lent
   pub answer : Answers link (take n new) budget lent a plan
@@ -60,7 +61,7 @@ pub record Fits (x : List ℕ) (l : Lists) : Type 0 where
   pub plans : max_rows * max_texts ≤ length l.offsets
 
 -- what the run r answered: accepted texts in front of the input, each with the answer that it gets alone; the rest of both lists is kept
-pub record AnswersTexts (x : List ℕ) (budget : ℕ) (old : Lists) (r : Run) (new : Lists) : Type 0 where
+pub record AnswersTexts (x : List ℕ) (budget : ℕ) (old : Lists) (r : Result ℕ Stopped) (new : Lists) : Type 0 where
   pub texts : List (List ℕ)
   pub behind : List ℕ
   pub input : x ≡ joined_of texts ++ behind

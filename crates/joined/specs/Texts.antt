@@ -1,10 +1,8 @@
 -- The texts of the joined input x: where each begins, and what is wrong with it. Texts are numbered from 0.
 use Rattle.std.specs.Prelude.{Bool, true, false, cond, ◌&&◌, ◌||◌, List, ℕ, zero, suc, ◌+◌, ltb, leb, eqb, length, take, drop}
-use Rattle.ground.specs.Judging.{first}
+use Rattle.ground.specs.Judging.{Judged, Fine, Fault, first}
 use Rattle.ground.specs.Least.{least}
 use Rattle.ground.specs.Protocol.{unless}
-use Rattle.ground.specs.Judging.{Judged}
-use Rattle.ground.specs.Judging.{Fine, Fault}
 use Rattle.text.specs.Limits.{max_text, long_text, cut_line}
 use Rattle.text.specs.Faults.{text_faults, end_of}
 use Rattle.joined.specs.Limits.{max_texts, too_many_texts}

@@ -4,9 +4,9 @@
 pub mod limits;
 
 ghost use Rattle.std.specs.Prelude.{◌≡◌, ◌≤◌, ◌*◌, ltb, length};
-ghost use Rattle.ground.specs.Judging.{first, Fault as fault_at};
-ghost use Rattle.ground.specs.Refusals.{judged, fault_of, number_of};
+ghost use Rattle.ground.specs.Judging.{first, Fault as AtFault};
 ghost use Rattle.ground.specs.Protocol.{gives};
+ghost use Rattle.ground.specs.Refusals.{number_of, fault_of, judged};
 ghost use Rattle.link.specs.Limits.{max_rows};
 ghost use Rattle.text.specs.Limits.{max_text};
 ghost use Rattle.search.specs.Answer.{said as said_searched};
@@ -21,7 +21,7 @@ use link::limits::MAX_ROWS;
 use search::Answer;
 use text::limits::MAX_TEXT;
 
-// A fault that stopped the run, and how many texts were answered: the text at fault is the one behind them.
+// What stopped a run, and how many texts were answered before: the text at fault is the one behind them.
 #[derive(Clone, Copy, Debug, PartialEq, Eq)]
 pub struct Stopped {
     pub texts: usize,
@@ -42,9 +42,7 @@ pub fn plan_texts(
     ensures { gives (said result) (lists answers.new offsets.new)
         ≡ planning texts.now budget (lists answers.old offsets.old) }
 {
-    if let Err(fault) = judge(texts.len(), answers.len(), offsets.len()) {
-        return Err(Stopped { texts: 0, fault });
-    }
+    judge(texts.len(), answers.len(), offsets.len()).map_err(|fault| Stopped { texts: 0, fault })?;
     plan_each(texts, budget, answers, offsets)
 }
 
@@ -78,17 +76,17 @@ fn plan_each(
     ensures { gives (said result) (lists answers.new offsets.new)
         ≡ running texts.now budget (lists answers.old offsets.old) }
 {
-    let mut at = 0;
+    let mut at: usize = 0;
     for t in 0..MAX_TEXTS {
         if at >= texts.len() {
             return Ok(t);
         }
-        let a = ANSWER * t;
-        let o = MAX_ROWS * t;
-        match plan_text(texts, at, budget, &mut answers[a..], &mut offsets[o..]) {
-            Ok(next) => at = next,
-            Err(fault) => return Err(Stopped { texts: t, fault }),
-        }
+        let numbers = &mut answers[ANSWER * t..];
+        let plan = &mut offsets[MAX_ROWS * t..];
+        at = plan_text(texts, at, budget, numbers, plan).map_err(|fault| Stopped {
+            texts: t,
+            fault,
+        })?;
     }
     if at < texts.len() {
         return Err(Stopped {
@@ -118,28 +116,21 @@ fn plan_text(
     // a text is read from its first 1,024 bytes
     let end = at + left.min(MAX_TEXT);
     let mut delays = [0u32; MAX_ROWS];
-    match text::read_text(&texts[at..end], &mut delays) {
-        Err(fault) => Err(cut_or_long(left, fault)),
-        Ok(text) => {
-            let next = at + text.end;
-            let answer = search::exact(text.link, &delays[..text.rows], budget, offsets);
-            ground::copy_out(&numbers(answer, text.rows), answers);
-            Ok(next)
-        }
-    }
+    let text = text::read_text(&texts[at..end], &mut delays).map_err(|fault| split(left, fault))?;
+    let answer = search::exact(text.link, &delays[..text.rows], budget, offsets);
+    ground::copy_out(&numbers(answer, text.rows), answers);
+    Ok(at + text.end)
 }
 
 // A text's fault, with so many bytes from its first on: a line that is not ended is 1 where they go on past 1,024.
-fn cut_or_long(bytes: usize, fault: Fault) -> Fault
-    ensures { fault_of result ≡ split_cut fault_at (ltb max_text bytes) (number_of fault.refusal) fault.place }
+fn split(bytes: usize, fault: Fault) -> Fault
+    ensures { fault_of result ≡ split_cut AtFault (ltb max_text bytes) (number_of fault.refusal) fault.place }
 {
-    if bytes > MAX_TEXT {
-        if fault.refusal == Refusal::CutLine {
-            return Fault {
-                refusal: Refusal::LongText,
-                place: 0,
-            };
-        }
+    if bytes > MAX_TEXT && fault.refusal == Refusal::CutLine {
+        return Fault {
+            refusal: Refusal::LongText,
+            place: 0,
+        };
     }
     fault
 }

@@ -73,6 +73,7 @@ impl Placed<'_> {
         let Some(link) = two_numbers(self.bytes) else {
             return Err(self.fault(Refusal::BadLine));
         };
+        // a `match`: with `map_err(..)?` the proof loses what `fault` says
         match link::judge::link_values(link) {
             Ok(_) => Ok(Head {
                 link,

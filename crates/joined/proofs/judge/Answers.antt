@@ -1,7 +1,4 @@
 -- 23, then 11 for either list.
-use mathlib.Core.Path.{◌≡◌}
-use mathlib.Core.Bool.{true, ◌||◌, or-true}
-use lib.Dec.{ltb}
 use borrow.Author.Tests.{lt-ltb, le-ltb}
 use Rattle.ground.proofs.Faults.{hit, pass, fine}
 use Rattle.joined.specs.Answer.{call_faults}
@@ -14,13 +11,10 @@ returns-then-bytes-gt-MAX_JOINED c = hit _ _ _ _ (lt-ltb _ _ c.if-bytes-gt-MAX_J
 
 pub returns-then-numbers : goal.returns-then-numbers
 unfolding call_faults
-returns-then-numbers c =
-    let short : (ltb c.args.numbers 128 || ltb c.args.offsets 2048) ≡ true =
-    elim c.then-numbers.branch [
-      | then-numbers-via-then-numbers w ↦ rw (lt-ltb c.args.numbers 128 w.if-numbers.true)
-      | then-numbers-via-else-numbers+then-offsets w ↦ rw (lt-ltb c.args.offsets 2048 w.if-offsets.true, or-true)
-    ] in
-    pass _ _ _ _ (le-ltb _ _ c.if-bytes-gt-MAX_JOINED.false) (hit _ _ _ _ short)
+returns-then-numbers c = pass _ _ _ _ (le-ltb _ _ c.if-bytes-gt-MAX_JOINED.false) (elim c.then-numbers.branch [
+  | then-numbers-via-then-numbers w ↦ hit _ _ _ _ (rw (lt-ltb _ _ w.if-numbers.true))
+  | then-numbers-via-else-numbers+then-offsets w ↦ hit _ _ _ _ (rw (le-ltb _ _ w.if-numbers.false) (lt-ltb _ _ w.if-offsets.true))
+])
 
 pub returns : goal.returns
 unfolding call_faults

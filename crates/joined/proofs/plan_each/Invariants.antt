@@ -5,4 +5,4 @@ use Rattle.joined.proofs.plan_each.Given as goal
 
 abbrev pub invariant-loop-t : goal.invariant-loop-t
 invariant-loop-t l =
-    Walked l.texts l.budget (lists l.initial.answers l.initial.offsets) l.at l.t (lists l.answers l.offsets)
+    Walked l.texts l.budget (lists l.initial.answers l.initial.offsets) l.at l.t-counter (lists l.answers l.offsets)
