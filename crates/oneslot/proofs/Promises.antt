@@ -20,7 +20,7 @@ use Rattle.link.specs.Rows.{span_of, Clear}
 use Rattle.link.specs.declared.Link.{Link}
 use Rattle.quick.specs.Answer.{Planned, planned, thirteen, Verdict, Said, planning, refusing, said, outcome}
 use Rattle.quick.specs.Plan.{Progress, rows}
-use Rattle.quick.proofs.Saying.{unsaid, again}
+use Rattle.quick.proofs.Promises.{unsaid, again}
 use Rattle.oneslot.specs.Answer.{size_refused, faults, one_slot}
 use Rattle.oneslot.specs.Limits.{not_one_slot}
 use Rattle.oneslot.specs.Plan.{settled, all_settled}

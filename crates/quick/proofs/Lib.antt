@@ -5,7 +5,6 @@ pub mod Placing
 pub mod Keeping
 pub mod Entries
 pub mod Sound
-pub mod Saying
 pub mod Promises
 pub mod FirstFit
 pub mod Following

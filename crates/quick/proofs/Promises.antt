@@ -6,7 +6,7 @@ use mathlib.Core.List.{List}
 use Prim.Native.Nat.{ℕ, ◌≤◌, ◌<◌}
 use native.Mathlib.Omega.{arith}
 use lib.ListN.{length}
-use Rattle.std.specs.Prelude.{Err}
+use Rattle.std.specs.Prelude.{Ok, Err}
 use Rattle.ground.specs.declared.Fault.{Fault}
 use Rattle.ground.specs.Judging.{first}
 use Rattle.ground.specs.Least.{least}
@@ -15,6 +15,7 @@ use Rattle.ground.specs.Protocol.{Outcome, gives, keeping}
 use Rattle.ground.specs.Judging.{Fine}
 use Rattle.ground.proofs.Answers.{Told, stopped, through, told, let_through, goes_on, no_second_outcome}
 use Rattle.ground.proofs.Bools.{clash, never}
+use Rattle.ground.proofs.Refusals.{refused, fault_again}
 use Rattle.link.specs.Limits.{no_offset}
 use Rattle.link.specs.Range.{GoodTable}
 use Rattle.link.specs.Refusal.{planner_faults}
@@ -24,9 +25,20 @@ use Rattle.link.proofs.Accepted.{good_room, fine_room, planner_low}
 use Rattle.link.proofs.Clearness.{clear_rows}
 use Rattle.quick.specs.Plan.{free_at, Progress, rows, stuck, all_placed}
 use Rattle.quick.specs.Right.{Placed, GivenPlan, NoOffset}
-use Rattle.quick.specs.Answer.{Planned, planned, thirteen, Verdict, Said, planning, refusing, said, outcome, quick}
-use Rattle.quick.proofs.Saying.{unsaid, again}
+use Rattle.quick.specs.Answer.{Planned, planned, thirteen, Verdict, plan, refusal, Said, planning, refusing, said, outcome, quick}
 use Rattle.quick.proofs.Sound.{Says, all, some_row, says, all_is, stuck_is}
+
+abbrev pub unsaid_as : Verdict → Said → Planned
+unsaid_as plan s = planned
+unsaid_as refusal s = Err (refused s.number s.place)
+
+abbrev pub unsaid : Said → Planned
+unsaid s = unsaid_as s.verdict s
+
+pub again : (r : Planned) → unsaid (said r) ≡ r
+unfolding said
+again (Ok u) = refl
+again (Err f) = ap (λ (x : Fault). Err x) (fault_again f)
 
 -- no second answer, and no second content of the list, meets the contract
 pub no_second : (k : Link) (ds old : List ℕ) (step count : ℕ) (r s : Planned) (new other : List ℕ)

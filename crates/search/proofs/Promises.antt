@@ -34,8 +34,7 @@ use Rattle.search.proofs.Verdicts.{unsaid, again, Planned, means, plan_answers, 
 
 -- "Show that no second answer satisfies it": nor a second content of the list
 pub no_second : (k : Link) (ds : List ℕ) (budget : ℕ) (old : List ℕ) (r s : Result Answer Fault) (new other : List ℕ)
-    → Answers k ds budget old r new
-    → Answers k ds budget old s other → (r ≡ s) × (new ≡ other)
+    → Answers k ds budget old r new → Answers k ds budget old s other → (r ≡ s) × (new ≡ other)
 no_second k ds budget old r s new other a b = no_second_outcome said unsaid again {r = r} {s = s} a b
 
 module _ (k : Link) (ds : List ℕ) (budget : ℕ) (old : List ℕ) (t : ℕ) (new : List ℕ) where
@@ -77,8 +76,7 @@ clear_plan_never_none k ds os c budget old t new a = none_means_none k ds budget
 
 -- "A lent buffer longer than needed keeps its tail. Every refusal and every verdict but a plan leaves all output buffers .."
 pub tail_kept : (k : Link) (ds : List ℕ) (budget : ℕ) (old : List ℕ) (r : Result Answer Fault) (new : List ℕ)
-    → Answers k ds budget old r new
-    → new ≡ on_front (given r (length ds) new) old
+    → Answers k ds budget old r new → new ≡ on_front (given r (length ds) new) old
 tail_kept k ds budget old (Ok (Plan t)) new a =
     let w = means k ds budget old (Ok (Plan t)) new a in
     w.left ∙ ap (λ (os : List ℕ). on_front os old) (sym (front k ds budget old t new w old new w.left))
@@ -115,8 +113,7 @@ larger_budget_same k ds budget larger old old' r s new new' h room d a b =
 
 -- The lent list does not matter: with room in both, two calls at one budget give the same answer and the same offsets.
 pub any_list_same : (k : Link) (ds : List ℕ) (budget : ℕ) (old old' : List ℕ) (r s : Result Answer Fault) (new new' : List ℕ)
-    → length ds ≤ length old
-    → length ds ≤ length old' → Answers k ds budget old r new → Answers k ds budget old' s new'
+    → length ds ≤ length old → length ds ≤ length old' → Answers k ds budget old r new → Answers k ds budget old' s new'
     → (s ≡ r) × (given s (length ds) new' ≡ given r (length ds) new)
 any_list_same k ds budget old old' r s new new' room room' a b = (e, same r e a)
   where
@@ -133,8 +130,7 @@ any_list_same k ds budget old old' r s new new' room room' a b = (e, same r e a)
 
 -- "a number that tests never passes"
 pub tests_below_ceiling : (k : Link) (ds : List ℕ) (budget : ℕ) (old : List ℕ) (r : Result Answer Fault) (new : List ℕ)
-    → Answers k ds budget old r new
-    → (said r).tests ≤ ceiling_up_to (length ds)
+    → Answers k ds budget old r new → (said r).tests ≤ ceiling_up_to (length ds)
 unfolding said ceiling_up_to
 tests_below_ceiling k ds budget old (Ok (Plan t)) new a =
     let w = means k ds budget old (Ok (Plan t)) new a in
@@ -173,10 +169,8 @@ plan_exactly_when_clear k ds budget old r new e h a = (λ w. there r w.0 w.1 a, 
     there (Err f) os c b = let q = (means k ds budget old (Err f) new b).fault in never (cc)
 
     back : (t : ℕ) → r ≡ Ok (Plan t) → (os : List ℕ) × ClearChoice k ds os
-    back t q = (
-      take (length ds) new,
-      plan_is_clear k ds budget old t new (subst (λ (x : Result Answer Fault). Answers k ds budget old x new) q a),
-    )
+    back t q =
+        (take (length ds) new, plan_is_clear k ds budget old t new (subst (λ (x : Result Answer Fault). Answers k ds budget old x new) q a))
 
 module _ (k : Link) (ds : List ℕ) (budget : ℕ) (old : List ℕ) (t : ℕ) (new : List ℕ) (a : Answers k ds budget old (Ok (Plan t)) new) where
   -- "Where a table got a plan, the same table with shorter messages .. never gets "none" at any budget."

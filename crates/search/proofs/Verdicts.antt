@@ -88,13 +88,13 @@ module _ (k : Link) (ds : List ℕ) (budget : ℕ) (old : List ℕ) where
       ended : (o : Out) → planned k ds ≡ o → Accepted k ds (length old) → gives (said r) new ≡ outcome budget (length ds) old o
           → Means r new
       ended (found s t) e g f =
-          ⊎_elim (λ h. is (Ok (Spent budget)) old (f ∙ rw (lt-ltb budget t h))
-          (λ q. record { good = g; all = refl; above = rw e h; left = q }))
+          ⊎_elim
+          (λ h. is (Ok (Spent budget)) old (f ∙ rw (lt-ltb budget t h)) (λ q. record { good = g; all = refl; above = rw e h; left = q }))
           (λ h. is (Ok (Plan t)) (on_front (take (length ds) s) old) (f ∙ rw (le-ltb budget t h))
           (λ q. record { good = g; offsets = s; is = e; within_budget = h; left = q })) (lt_or_ge budget t)
       ended (none t) e g f =
-          ⊎_elim (λ h. is (Ok (Spent budget)) old (f ∙ rw (lt-ltb budget t h))
-          (λ q. record { good = g; all = refl; above = rw e h; left = q }))
+          ⊎_elim
+          (λ h. is (Ok (Spent budget)) old (f ∙ rw (lt-ltb budget t h)) (λ q. record { good = g; all = refl; above = rw e h; left = q }))
           (λ h. is (Ok (Nothing t)) old (f ∙ rw (le-ltb budget t h)) (λ q. record { good = g; is = e; within_budget = h; left = q }))
           (lt_or_ge budget t)
 

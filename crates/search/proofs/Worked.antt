@@ -87,8 +87,8 @@ first_always budget list r new h room a =
     (w.0, w.3 ∙ ap (λ (os : List ℕ). on_front os list) w.1)
 
 -- nine rows get 12, whatever list with nine places is lent
-pub nine_always : (list : List ℕ) (r : Result Answer Fault) (new : List ℕ) → 9 ≤ length list → Answers (table 10 2) nine 5 list r new
-    → r ≡ Err too_many
+pub nine_always : (list : List ℕ) (r : Result Answer Fault) (new : List ℕ) → 9 ≤ length list
+    → Answers (table 10 2) nine 5 list r new → r ≡ Err too_many
 nine_always list r new room a =
     (any_list_same (table 10 2) nine 5 nine list (Err too_many) r nine new (omega arith) room answers.2 a).0
 

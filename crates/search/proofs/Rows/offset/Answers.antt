@@ -18,10 +18,9 @@ turn-requires c =
     omega (arith, first_on c.args.board.now (c.args.k / 2 % max_rows))
 
 pub returns-then-k-eq0 : goal.returns-then-k-eq0
-returns-then-k-eq0 c = (
-  c.turn.ensures.0 ∙ ap (second _ _) (first_on c.args.board.now (c.args.k / 2 % max_rows)) ∙ sym (puts_one _ _ _ _ _ c.if-k-eq0.true),
-  omega arith,
-)
+returns-then-k-eq0 c =
+    let beside = first_on c.args.board.now (c.args.k / 2 % max_rows) in
+    (c.turn.ensures.0 ∙ ap (second _ _) beside ∙ sym (puts_one _ _ _ _ _ c.if-k-eq0.true), omega arith)
 
 pub turn-second-requires : goal.turn-second-requires
 turn-second-requires c =
