@@ -70,8 +70,6 @@ fn plan(
 }
 
 // The least candidate, of those from `from` on and below the count, at which a row with this delay meets none of the rows so far.
-// Not inlined: its copies in the callers ran slower.
-#[inline(never)]
 pub fn first_free(
     circle: Circle,
     delay: u32,
