@@ -24,7 +24,7 @@ impl Page<'_> {
         self.end = end;
     }
 
-    // A number, in decimal: its digits are found from the last to the first.
+    // A number, in decimal: its digits are found from the last to the first, as many as it has, so this is no `for`.
     pub(crate) fn decimal(&mut self, n: u64)
         requires { Room self.old max_digits }
         ensures { Puts self.old (number n) self.new }

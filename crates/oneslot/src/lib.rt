@@ -127,7 +127,7 @@ impl Ring {
     {
         // with no room for the new row even so, no offset of the moved one helps
         let least = self.first_free(delay, starts, 0)?;
-        // an offset fails only if it is in the way of every one left to the new row, so few are tried
+        // an offset fails only if it is in the way of every one left to the new row, so few are tried, each hunt from behind the last
         let mut from = 0;
         while let Some(to) = self.first_free(moving, starts, from) {
             let moved = self.circle.start(moving, to);

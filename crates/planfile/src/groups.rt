@@ -37,7 +37,7 @@ pub(crate) fn number_at(bytes: &[u8], at: usize) -> Result<Number, Malformed>
     Err(Malformed::Cut)
 }
 
-// Writes a number at a place, and answers the place after it.
+// Writes a number at a place, and answers the place after it. As many groups as it needs, so this is no `for`.
 pub(crate) fn put_number(file: &mut [u8], from: usize, value: u32) -> usize
     requires { (from + more_groups < length file.old) × (value < limit more_groups) }
     ensures { Adds file.old from (number_bytes value) result file.new }

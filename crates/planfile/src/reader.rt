@@ -87,7 +87,8 @@ pub fn read_header(bytes: &[u8], at: usize) -> Result<Header, Fault>
     read_numbers(bytes, at)
 }
 
-// The place after a header that was read at a place, where the rows begin; one that was refused is not passed over.
+// The place after a header that was read at a place, where the rows begin; one that was refused is not passed over. One line, as
+// `after_number` is: a trait for the two would be longer.
 pub fn after_header(at: usize, head: Result<Header, Fault>) -> usize
     ensures { result ≡ after at (headed head) }
 {
