@@ -9,8 +9,7 @@ ghost use Rattle.checker.specs.Answer.{said, found, answer, named};
 ghost use Rattle.checker.specs.Judging.{clear_faults};
 
 use ground::{Fault, Refusal};
-use link::limits::MAX_ROWS;
-use link::{Circle, Crossing, Link, Start};
+use link::{Circle, Crossing, Link, NO_STARTS};
 
 // Two rows that meet, and the crossing.
 #[derive(Clone, Copy, Debug, PartialEq, Eq)]
@@ -46,10 +45,7 @@ fn first_collision(circle: Circle, delays: &[u32], offsets: &[u32]) -> Option<Co
     requires { InRange circle.period circle.span delays.now offsets.now }
     ensures { found result ≡ named circle.period circle.span delays.now offsets.now }
 {
-    let mut starts = [Start {
-        first: 0,
-        second: 0,
-    }; MAX_ROWS];
+    let mut starts = NO_STARTS;
     for (later, delay) in delays.iter().enumerate() {
         let start = circle.start(*delay, offsets[later]);
         if let Some(met) = circle.first_met(&starts[..later], start) {

@@ -1,4 +1,4 @@
-// The judging of values: every call on values goes through `table` first.
+// The judging of values, in the order that every call on values shares.
 ghost use Rattle.std.specs.Prelude.{◌≡◌, position, nat_le};
 ghost use Rattle.ground.specs.Judging.{outside, first};
 ghost use Rattle.ground.specs.Refusals.{judged};

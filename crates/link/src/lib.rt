@@ -10,6 +10,8 @@ ghost use Rattle.link.specs.Slots.{apartb, gap};
 ghost use Rattle.link.specs.Rows.{span_of, second, first_near};
 ghost use Rattle.link.specs.Starts.{met, firsts, seconds, crossing_number};
 
+use crate::limits::MAX_ROWS;
+
 #[derive(Clone, Copy, Debug, PartialEq, Eq)]
 pub struct Link {
     pub period: u32,
@@ -41,6 +43,12 @@ pub struct Start {
     pub first: u32,
     pub second: u32,
 }
+
+// Room for the starts of all rows.
+pub const NO_STARTS: [Start; MAX_ROWS] = [Start {
+    first: 0,
+    second: 0,
+}; MAX_ROWS];
 
 #[derive(Clone, Copy, Debug, PartialEq, Eq)]
 pub enum Crossing {

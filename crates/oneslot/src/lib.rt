@@ -15,8 +15,7 @@ ghost use Rattle.oneslot.specs.Plan.{all_settled};
 ghost use Rattle.oneslot.specs.Others.{without, fits, can_move};
 
 use ground::{Fault, Refusal};
-use link::{Circle, Link, Start};
-use quick::NO_STARTS;
+use link::{Circle, Link, NO_STARTS, Start};
 
 // An earlier row that gives way, its new offset, and the new row's.
 #[derive(Clone, Copy, Debug, PartialEq, Eq)]

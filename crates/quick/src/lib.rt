@@ -10,14 +10,7 @@ ghost use Rattle.quick.specs.Answer.{said, outcome, first_fit, meta_offset};
 ghost use Rattle.quick.specs.Ways.{Ways, FirstOpen, open_to};
 
 use ground::{Fault, Refusal};
-use link::limits::MAX_ROWS;
-use link::{Circle, Link, Start};
-
-// Room for the starts of all rows.
-pub const NO_STARTS: [Start; MAX_ROWS] = [Start {
-    first: 0,
-    second: 0,
-}; MAX_ROWS];
+use link::{Circle, Link, NO_STARTS, Start};
 
 // Each row gets the least free offset.
 pub fn first_fit(link: Link, delays: &[u32], offsets: &mut [u32]) -> Result<(), Fault>

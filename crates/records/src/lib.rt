@@ -14,7 +14,7 @@ ghost use Rattle.records.specs.Columns.{delays_of, offsets_of};
 use checker::Collision;
 use ground::{Fault, Refusal};
 use link::limits::{MAX_DELAY, MAX_ROWS};
-use link::{Circle, Link, Start};
+use link::{Circle, Link, NO_STARTS};
 
 #[repr(C)]
 #[derive(Clone, Copy, Debug, PartialEq, Eq)]
@@ -31,7 +31,8 @@ pub fn check_records(link: Link, records: &[Record]) -> Result<Option<Collision>
     Ok(first_collision(link.circle(), records))
 }
 
-// The least row with a delay out of range.
+// The least row with a delay out of range. This and `beyond` are one chain each: one function for both, and for `link`'s, would take
+// the field by a closure, whose clause is longer than they are.
 fn overlong(records: &[Record]) -> Option<usize>
     ensures { result ≡ position (λ (r : Record). nat_lt max_delay r.delay) records.now }
 {
@@ -78,10 +79,7 @@ fn first_collision(circle: Circle, records: &[Record]) -> Option<Collision>
     requires { InRange circle.period circle.span (delays_of records.now) (offsets_of records.now) }
     ensures { found result ≡ named circle.period circle.span (delays_of records.now) (offsets_of records.now) }
 {
-    let mut starts = [Start {
-        first: 0,
-        second: 0,
-    }; MAX_ROWS];
+    let mut starts = NO_STARTS;
     for (later, record) in records.iter().enumerate() {
         let start = circle.start(record.delay, record.offset);
         if let Some(met) = circle.first_met(&starts[..later], start) {
