@@ -7,3 +7,4 @@ pub mod Ceilings
 pub mod Answer
 pub mod Numbering
 pub mod Search
+pub mod Searching

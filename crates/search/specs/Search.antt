@@ -4,12 +4,8 @@ use Rattle.link.specs.Limits.{max_period, max_rows}
 use Rattle.link.specs.Slots.{apartb}
 use Rattle.ground.specs.Least.{some}
 use Rattle.link.specs.Rows.{second}
-use Rattle.search.specs.Numbering.{step_at}
-use Rattle.search.specs.Steps.{Step, Rules, rules}
+use Rattle.search.specs.Steps.{Step, Rules}
 use Rattle.search.specs.Builds.{Out, found, none}
-use Rattle.link.specs.Starts.{firsts, seconds}
-use Rattle.link.specs.declared.Start.{Start}
-use Rattle.search.specs.declared.Rows.{Rows}
 use Rattle.search.specs.declared.Hunt.{Hunt}
 use Rattle.search.specs.declared.Hunt.TheVariants.{Found, Nothing, Spent}
 
@@ -62,24 +58,6 @@ pub record Starts (p : ℕ) (ds : List ℕ) (n : ℕ) (xs ys : List ℕ) : Type 
   pub xs_length : length xs ≡ max_rows
   pub ys_length : length ys ≡ max_rows
   pub seconds : (i : ℕ) → i < n → get_or xs i 0 < p → get_or ys i 0 ≡ second p (get_or ds i 0) (get_or xs i 0)
-
--- the same of the rows that the code searches, and of the starts that it has
-abbrev pub Searchable : Rows → Type 0
-Searchable r = Table r.circle.period r.circle.span r.delays r.count
-
-abbrev pub Stands : Rows → List Start → Type 0
-Stands r ss = Starts r.circle.period r.delays r.count (firsts ss) (seconds ss)
-
-abbrev pub rules_by : Rows → Rules
-rules_by r = rules r.circle.period r.circle.span r.delays r.count
-
--- placing the u rows that are left, and trying the step that the number k stands for
-abbrev pub Descended : Rows → ℕ → ℕ → List Start → Hunt → List Start → Type 0
-Descended r u left ss h ss' = Answered left (firsts ss) (deep (rules_by r) u (firsts ss)) h (firsts ss')
-
-abbrev pub Tried : Rows → ℕ → ℕ → ℕ → List Start → Hunt → List Start → Type 0
-Tried r u k left ss h ss' =
-    Answered left (firsts ss) (more 1 (tried (rules_by r) (deep (rules_by r) u) (firsts ss) (step_at k))) h (firsts ss')
 
 -- a row with the starts x and y, if it is placed, is nearer to a row with the starts a and b than l
 unfoldable pub blocked : ℕ → ℕ → ℕ → ℕ → ℕ → ℕ → Bool

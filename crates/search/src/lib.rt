@@ -15,7 +15,7 @@ ghost use Rattle.search.specs.Steps.{puts, is_step};
 ghost use Rattle.search.specs.Ceilings.{ceiling_up_to};
 ghost use Rattle.search.specs.Answer.{said, tells, searched, exactly};
 ghost use Rattle.search.specs.Numbering.{step_at, Next};
-ghost use Rattle.search.specs.Search.{Searchable, Stands, Tried, Descended, blocked, unblocked};
+ghost use Rattle.search.specs.Search.{Table, blocked, unblocked};
 
 use crate::limits::MAX_EXACT_ROWS;
 use ground::{Fault, Refusal};
@@ -71,6 +71,7 @@ struct Rows {
     // an array with the count beside it: with a slice of it the search is slower by a third
     delays: [u32; MAX_ROWS],
     count: usize,
+    ghost searchable: { Table circle.period circle.span delays count },
 }
 
 // How a search ended, with the tests that are left: three ways, which no `Option` or `Result` has.
@@ -138,9 +139,10 @@ fn meets(circle: Circle, placed: Start, new: Start) -> bool
 }
 
 impl Rows {
+    ghost use Rattle.search.specs.Searching.{Stands, Tried, Descended};
+
     // Whether a row with this start meets no placed row.
     fn is_free(&self, board: &Board, new: Start) -> bool
-        requires { self.now.count ≤ max_rows }
         ensures { result ≡ unblocked self.now.circle.period self.now.circle.span (firsts board.now) (seconds board.now)
             self.now.count new.first new.second }
     {
@@ -154,7 +156,7 @@ impl Rows {
 
     // The number of the first step from a number on. The walk jumps, so it is no `for`.
     fn next_step(&self, board: &Board, from: usize) -> usize
-        requires { (self.now.count ≤ max_rows) × (from ≤ self.now.count * (2 * max_rows)) }
+        requires { from ≤ self.now.count * (2 * max_rows) }
         ensures { Next self.now.circle.period self.now.count (firsts board.now) from result }
     {
         let mut k = from;
@@ -177,7 +179,7 @@ impl Rows {
 
     // Where a step puts its row.
     fn offset(&self, board: &Board, k: usize) -> u32
-        requires { Searchable self.now × Stands self.now board.now
+        requires { Stands self.now board.now
             × (is_step self.now.circle.period self.now.count (firsts board.now) (step_at k) ≡ true) }
         ensures { (result ≡ puts self.now.circle.period self.now.circle.span self.now.delays (firsts board.now) (step_at k))
             × (result < self.now.circle.period) }
@@ -194,7 +196,7 @@ impl Rows {
     // Tries the step k, which is one test: where it is good, the rows that are then left are placed.
     #[cycle(descend_try_step)]
     fn try_step(&self, board: &mut Board, unplaced: usize, k: usize, left: u64) -> Hunt
-        requires { Searchable self.now × Stands self.now board.old
+        requires { Stands self.now board.old
             × (k < self.now.count * (2 * max_rows))
             × (is_step self.now.circle.period self.now.count (firsts board.old) (step_at k) ≡ true) × (0 < left) }
         ensures tried { Tried self.now unplaced k left board.old result board.new }
@@ -222,7 +224,7 @@ impl Rows {
     // Places the rows that are left, `unplaced` of them.
     #[cycle(descend_try_step)]
     fn descend(&self, board: &mut Board, unplaced: usize, budget: u64) -> Hunt
-        requires { Searchable self.now × Stands self.now board.old }
+        requires { Stands self.now board.old }
         ensures descended { Descended self.now unplaced budget board.old result board.new }
         ensures starts { Stands self.now board.new }
     {

@@ -11,13 +11,15 @@ use Rattle.search.proofs.Planning.{begin_starts, low_delays, turns_table, is_pla
 use Rattle.search.proofs.Planning.{spent_outcome}
 use Rattle.search.proofs.plan.Goals as goal
 
+pub invariant_of-rows : goal.invariant_of-rows
+invariant_of-rows c =
+    record { searchable = turns_table _ _ c.circle-circle.ensures _ c.reduced.result c.requires.0 c.reduced.ensures }
+
 pub descend-requires : goal.descend-requires
-descend-requires c = (
-  turns_table _ _ c.circle-circle.ensures _ c.reduced.result c.requires.0 c.reduced.ensures,
-  rw (first_firsts, first_seconds)
-      (begin_starts _ _ _ c.requires.0.rows_high
-      (low_delays _ _ c.circle-circle.ensures _ c.reduced.result c.requires.0 c.reduced.ensures 0)),
-)
+descend-requires c =
+    rw (first_firsts, first_seconds)
+    (begin_starts _ _ _ c.requires.0.rows_high
+    (low_delays _ _ c.circle-circle.ensures _ c.reduced.result c.requires.0 c.reduced.ensures 0))
 
 pub overflow_sub-result : goal.overflow_sub-result
 overflow_sub-result c = omega (arith, (ends _ _ _ _ (Found _) (told_as c.in-Found.is c.descend.ensures.descended)).rest)

@@ -20,7 +20,7 @@ pub descend-returns-then-unplaced-eq0-clause-descended :
 descend-returns-then-unplaced-eq0-clause-descended t c = whole _ _ _ _ c.if-unplaced-eq0.true
 
 pub descend-loop-k-init : goal.descend-loop-k-init
-descend-loop-k-init t c = begins c.requires.0 c.if-unplaced-eq0.false c.requires.1 c.next_step-k.ensures
+descend-loop-k-init t c = begins c.args.self.now.searchable c.if-unplaced-eq0.false c.requires c.next_step-k.ensures
 
 pub descend-returns-then-left-eq0-clause-descended :
     goal.descend-returns-then-left-eq0-clause-descended
@@ -44,22 +44,22 @@ descend-returns-clause-descended t c = no_more c.loop-k.invariant c.loop-k-test.
 pub try_step-returns-then-not-is_free-clause-tried :
     goal.try_step-returns-then-not-is_free-clause-tried
 try_step-returns-then-not-is_free-clause-tried t c =
-    hands_over c.requires.0 c.requires.1 c.args.k c.requires.3 c.offset-first.ensures c.turn.ensures.0 c.is_free.ensures
-    _ _ c.requires.4 (ap not c.if-not-is_free.true)
+    hands_over c.args.self.now.searchable c.requires.0 c.args.k c.requires.2 c.offset-first.ensures c.turn.ensures.0 c.is_free.ensures
+    _ _ c.requires.3 (ap not c.if-not-is_free.true)
 
 pub try_step-descend-hunt-requires : goal.try_step-descend-hunt-requires
 try_step-descend-hunt-requires t c =
-    let names = names_at _ _ _ c.args.k c.requires.3 in
-    let h = c.requires.0.rows in
-    let less : c.args.unplaced * (candidates + 1) < t = omega (arith, c.requires.2) in
-    (less, (c.requires.0, rw (firsts_set, seconds_set) (starts_put h c.requires.1 names.row_low _ c.turn.ensures.0)))
+    let names = names_at _ _ _ c.args.k c.requires.2 in
+    let h = c.args.self.now.searchable.rows in
+    let less : c.args.unplaced * (candidates + 1) < t = omega (arith, c.requires.1) in
+    (less, rw (firsts_set, seconds_set) (starts_put h c.requires.0 names.row_low _ c.turn.ensures.0))
 
 pub try_step-returns-else-not-matches-clause-tried : goal.try_step-returns-else-not-matches-clause-tried
 try_step-returns-else-not-matches-clause-tried t c =
     elim c.match-matches.branch [
       | try_step-in-Found w ↦ told_as (sym w.in-Found.is)
-          (finds c.requires.0 c.requires.1 c.args.k c.requires.3 c.offset-first.ensures c.turn.ensures.0 c.is_free.ensures _ _
-          c.requires.4 (ap not c.if-not-is_free.false) c.descend-hunt.ensures.starts
+          (finds c.args.self.now.searchable c.requires.0 c.args.k c.requires.2 c.offset-first.ensures c.turn.ensures.0 c.is_free.ensures _ _
+          c.requires.3 (ap not c.if-not-is_free.false) c.descend-hunt.ensures.starts
           (told_as w.in-Found.is (rw firsts_set at c.descend-hunt.ensures.descended)))
       | try_step-in_default w ↦ never (cc)
     ]
@@ -69,8 +69,8 @@ try_step-returns-then-not-matches t c =
     elim c.match-matches.branch [
       | try_step-in-Found w ↦ never (cc)
       | try_step-in_default w ↦
-          let u = in_vain c.requires.0 c.requires.1 c.args.k c.requires.3 c.offset-first.ensures c.turn.ensures.0
-          c.is_free.ensures _ _ c.requires.4 (ap not c.if-not-is_free.false) c.descend-hunt.ensures.starts _ _ w.in_default.not-Found
+          let u = in_vain c.args.self.now.searchable c.requires.0 c.args.k c.requires.2 c.offset-first.ensures c.turn.ensures.0
+          c.is_free.ensures _ _ c.requires.3 (ap not c.if-not-is_free.false) c.descend-hunt.ensures.starts _ _ w.in_default.not-Found
           (rw firsts_set at c.descend-hunt.ensures.descended) in
           record { tried = rw (firsts_set, first_on) u.0; starts = rw (firsts_set, seconds_set, first_on) u.1 }
     ]

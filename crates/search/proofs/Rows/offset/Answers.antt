@@ -13,8 +13,8 @@ use Rattle.search.proofs.Rows.offset.Goals as goal
 
 pub turn-requires : goal.turn-requires
 turn-requires c =
-    let t = c.requires.0 in
-    let h = (names_at _ _ _ c.args.k c.requires.2).beside_placed in
+    let t = c.args.self.now.searchable in
+    let h = (names_at _ _ _ c.args.k c.requires.1).beside_placed in
     omega (arith, first_on c.args.board.now (c.args.k / 2 % max_rows))
 
 pub returns-then-k-eq0 : goal.returns-then-k-eq0
@@ -24,24 +24,24 @@ returns-then-k-eq0 c =
 
 pub turn-second-requires : goal.turn-second-requires
 turn-second-requires c =
-    let t = c.requires.0 in
-    let w = names_at _ _ _ c.args.k c.requires.2 in
-    let q = c.requires.1.seconds (c.args.k / 2 % max_rows) w.beside_low w.beside_placed in
+    let t = c.args.self.now.searchable in
+    let w = names_at _ _ _ c.args.k c.requires.1 in
+    let q = c.requires.0.seconds (c.args.k / 2 % max_rows) w.beside_low w.beside_placed in
     let h = second_low c.args.self.now.circle.period (get_or c.args.self.now.delays (c.args.k / 2 % max_rows) 0)
     (get_or (firsts c.args.board.now) (c.args.k / 2 % max_rows) 0) (omega (arith, t)) in
     omega (arith, t, second_on c.args.board.now (c.args.k / 2 % max_rows))
 
 pub bounds-self-k : goal.bounds-self-k
 bounds-self-k c =
-    let t = c.requires.0 in
-    let w = (names_at _ _ _ c.args.k c.requires.2).row_low in
+    let t = c.args.self.now.searchable in
+    let w = (names_at _ _ _ c.args.k c.requires.1).row_low in
     omega (arith, t)
 
 pub returns : goal.returns
 returns c =
-    let w = names_at _ _ _ c.args.k c.requires.2 in
-    let q = c.requires.1.seconds (c.args.k / 2 % max_rows) w.beside_low w.beside_placed in (
-      puts_two _ _ _ _ c.args.k c.if-k-eq0.false (c.requires.0.delays _) _ _ _
+    let w = names_at _ _ _ c.args.k c.requires.1 in
+    let q = c.requires.0.seconds (c.args.k / 2 % max_rows) w.beside_low w.beside_placed in (
+      puts_two _ _ _ _ c.args.k c.if-k-eq0.false (c.args.self.now.searchable.delays _) _ _ _
           (second_on c.args.board.now (c.args.k / 2 % max_rows) ∙ q) c.turn-second.ensures.0 c.turn-2.ensures.0,
       omega arith,
     )
