@@ -17,7 +17,7 @@ use Rattle.planfile.specs.declared.BadNumber.{BadNumber}
 use Rattle.planfile.specs.declared.BadNumber.TheVariants.{Malformed as BadForm, OutOfRange}
 use Rattle.planfile.specs.declared.Malformed.{Malformed}
 use Rattle.planfile.specs.declared.Malformed.TheVariants.{Cut, TooLong, Needless}
-use Rattle.planfile.specs.declared.Taken.{Taken}
+use Rattle.planfile.specs.declared.Read.{Read}
 use Rattle.filereader.specs.Held.{ReadsNumber}
 use Rattle.filereader.specs.declared.FileReader.{FileReader}
 use Rattle.filereader.specs.declared.NumberRead.{NumberRead}
@@ -32,12 +32,12 @@ refusal_in (got v next) = 0
 refusal_in (stopped n p) = n
 
 module _ {R : Type 0} (f : R → ℕ) (back : ℕ → R) (again : (r : R) → back (f r) ≡ r) where
-  abbrev untaken : Step ℕ → ℕ → Result Taken (BadNumber R)
-  untaken (got v next) n = Ok (record { value = v; next = next })
+  abbrev untaken : Step ℕ → ℕ → Result (Read ℕ) (BadNumber R)
+  untaken (got v next) n = Ok (record { got = v; next = next })
   untaken (stopped zero p) n = Err (OutOfRange (back n))
   untaken (stopped (suc m) p) n = Err (BadForm (malformed_of (suc m)))
 
-  taken_again : (at : ℕ) (t : Result Taken (BadNumber R)) → untaken (taken_as (λ _. 0) at t) (refusal_in (taken_as f at t)) ≡ t
+  taken_again : (at : ℕ) (t : Result (Read ℕ) (BadNumber R)) → untaken (taken_as (λ _. 0) at t) (refusal_in (taken_as f at t)) ≡ t
   unfolding taken_as form_fault
   taken_again at (Ok t) = refl
   taken_again at (Err (BadForm Cut)) = refl
@@ -45,7 +45,7 @@ module _ {R : Type 0} (f : R → ℕ) (back : ℕ → R) (again : (r : R) → ba
   taken_again at (Err (BadForm Needless)) = refl
   taken_again at (Err (OutOfRange r)) = ap (λ (x : R). Err (OutOfRange x)) (again r)
 
-  same_taken : (at : ℕ) (t t' : Result Taken (BadNumber R)) → ((g : R → ℕ) → taken_as g at t ≡ taken_as g at t') → t ≡ t'
+  same_taken : (at : ℕ) (t t' : Result (Read ℕ) (BadNumber R)) → ((g : R → ℕ) → taken_as g at t ≡ taken_as g at t') → t ≡ t'
   same_taken at t t' e =
       sym (taken_again at t) ∙ (λ i. untaken (e (λ _. 0) i) (refusal_in (e f i))) ∙ taken_again at t'
 
@@ -71,8 +71,8 @@ three_hundred : (fault : ℕ) → number (0xAC ∷ 0x02 ∷ 0x01 ∷ []) 0 1 max
 unfolding number read_number groups_read onto ending outside
 three_hundred fault = refl
 
-abbrev read_300 : Taken
-read_300 = record { value = 300; next = 2 }
+abbrev read_300 : Read ℕ
+read_300 = record { got = 300; next = 2 }
 
 -- whatever is read there, it is 300, and the reader stands behind it
 pub worked_300 : (d : FileReader) (q : NumberRead ℕ) → d.bytes.now ≡ 0xAC ∷ 0x02 ∷ 0x01 ∷ [] → d.at ≡ 0

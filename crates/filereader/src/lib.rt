@@ -8,7 +8,7 @@ ghost use Rattle.planfile.specs.Answer.{lists, read_said, read_gives, IsFileOf};
 ghost use Rattle.filereader.specs.Held.{ReadsNumber};
 
 use ground::Fault;
-use planfile::{BadNumber, Plan, Taken, reader};
+use planfile::{BadNumber, Plan, Read, reader};
 
 #[derive(Clone, Copy, Debug, PartialEq, Eq)]
 pub struct FileReader<'a> {
@@ -20,7 +20,7 @@ pub struct FileReader<'a> {
 #[derive(Clone, Copy, Debug, PartialEq, Eq)]
 pub struct NumberRead<'a, R> {
     pub reader: FileReader<'a>,
-    pub taken: Result<Taken, BadNumber<R>>,
+    pub taken: Result<Read<u32>, BadNumber<R>>,
 }
 
 // The tag has four bytes.
@@ -44,7 +44,7 @@ impl<'a> FileReader<'a> {
         let taken = reader::take_number(self.bytes, self.at, low, high, fault);
         NumberRead {
             reader: FileReader {
-                at: reader::after_number(self.at, taken),
+                at: reader::after(self.at, taken),
                 ..self
             },
             taken,
@@ -61,7 +61,7 @@ pub fn read_plan(bytes: &[u8], delays: &mut [u32], offsets: &mut [u32]) -> Resul
     let start = FileReader::open(bytes);
     let head = reader::read_header(start.bytes, start.at);
     let at_rows = FileReader {
-        at: reader::after_header(start.at, head),
+        at: reader::after(start.at, head),
         ..start
     };
     reader::read_rest(at_rows.bytes, at_rows.at, head, delays, offsets)

@@ -5,7 +5,7 @@ use mathlib.Core.Bool.{Bool, true, false, cond}
 use mathlib.Core.List.{List, []}
 use Prim.Native.Nat.{ℕ}
 use Rattle.ground.proofs.Bools.{never}
-use Rattle.std.specs.Prelude.{Ok, Err}
+use Rattle.std.specs.Prelude.{Result, Ok, Err}
 use Rattle.ground.specs.Refusals.{number_of}
 use Rattle.ground.specs.declared.Fault.{Fault}
 use Rattle.planfile.specs.Bytes.{Bytes}
@@ -13,11 +13,24 @@ use Rattle.planfile.specs.Format.{tag}
 use Rattle.planfile.specs.FileMeaning.{Step, got, stopped, after, Head, header, tag_fault, tagged, rows, Meaning, refused, means}
 use Rattle.ground.specs.Words.{begins}
 use Rattle.planfile.specs.FileMeaning.{closing, rest, body, meaning}
-use Rattle.planfile.specs.Answer.{HeaderRead, headed, InRange, PlanRead, IsFileOf}
+use Rattle.planfile.specs.Answer.{taken_as, place_after, HeaderRead, headed, InRange, PlanRead, IsFileOf}
 use Rattle.planfile.specs.Answer.{refuses, delivered, rest_gives, ReadGives, Gives, read_gives}
-use Rattle.planfile.specs.declared.Header.{Header}
+use Rattle.planfile.specs.declared.Read.{Read}
+use Rattle.planfile.specs.declared.Plan.{Plan}
+use Rattle.planfile.specs.declared.BadNumber.{BadNumber}
 use Rattle.planfile.proofs.Accepting.{headed as header_read}
 use Rattle.planfile.proofs.Promises.{is_file_of}
+
+-- the place after a number and after a header, as a reader stands there
+pub after_taken : {R : Type 0} (f : R → ℕ) (at : ℕ) (t : Result (Read ℕ) (BadNumber R)) → place_after at t ≡ after at (taken_as f at t)
+unfolding place_after taken_as
+after_taken f at (Ok t) = refl
+after_taken f at (Err b) = refl
+
+pub after_headed : (at : ℕ) (h : HeaderRead) → place_after at h ≡ after at (headed h)
+unfolding place_after headed
+after_headed at (Ok h) = refl
+after_headed at (Err f) = refl
 
 module _ (bs : List ℕ) (at : ℕ) where
   pub no_tag : begins tag bs ≡ false → tagged bs at ≡ stopped (tag_fault bs) 0
@@ -32,9 +45,9 @@ module _ (bs : List ℕ) (at : ℕ) where
   in_range (Err f) e = tt
   in_range (Ok h) e = go (begins tag bs) e
     where
-      go : (b : Bool) → got (record { link = h.link; rows = h.rows }) h.next ≡ cond b (header bs at) (stopped (tag_fault bs) 0)
+      go : (b : Bool) → got (record { link = h.got.link; rows = h.got.rows }) h.next ≡ cond b (header bs at) (stopped (tag_fault bs) 0)
           → InRange (Ok h)
-      go true f = let r = header_read bs at (record { link = h.link; rows = h.rows }) h.next (sym f) in (r.period.low, r.rows.high)
+      go true f = let r = header_read bs at (record { link = h.got.link; rows = h.got.rows }) h.next (sym f) in (r.period.low, r.rows.high)
       go false f = never (cc)
 
   module _ (h : HeaderRead) (old_d old_o : List ℕ) where
@@ -42,15 +55,15 @@ module _ (bs : List ℕ) (at : ℕ) where
     unfolding headed delivered rest_gives
     head_refused f e = ap (λ (x : HeaderRead). rest_gives bs at x old_d old_o) e
 
-    module _ (w : Header) (e : h ≡ Ok w) where
-      pub bad_rows : (m p : ℕ) → rows bs w.link.period w.rows [] [] at ≡ stopped m p
+    module _ (w : Read Plan) (e : h ≡ Ok w) where
+      pub bad_rows : (m p : ℕ) → rows bs w.got.link.period w.got.rows [] [] at ≡ stopped m p
           → rest_gives bs at h old_d old_o ≡ refuses m p old_d old_o
       unfolding headed delivered rest_gives
       bad_rows m p f = rw (e, f)
 
       pub all_rows : (ds os : List ℕ) (end : ℕ)
-          → rows bs w.link.period w.rows [] [] at ≡ got (record { delays = ds; offsets = os }) end
-          → rest_gives bs at h old_d old_o ≡ delivered (closing bs w.link ds os end) old_d old_o
+          → rows bs w.got.link.period w.got.rows [] [] at ≡ got (record { delays = ds; offsets = os }) end
+          → rest_gives bs at h old_d old_o ≡ delivered (closing bs w.got.link ds os end) old_d old_o
       unfolding headed rest_gives
       all_rows ds os end f = rw (e, f)
 

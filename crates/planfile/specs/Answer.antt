@@ -15,8 +15,7 @@ use Rattle.planfile.specs.FileMeaning.{closing, rest, meaning}
 use Rattle.planfile.specs.Number.{form_fault, formed}
 use Rattle.planfile.specs.declared.BadNumber.{BadNumber}
 use Rattle.planfile.specs.declared.BadNumber.TheVariants.{Malformed, OutOfRange}
-use Rattle.planfile.specs.declared.Taken.{Taken}
-use Rattle.planfile.specs.declared.Header.{Header}
+use Rattle.planfile.specs.declared.Read.{Read}
 use Rattle.planfile.specs.declared.Row.{Row as OneRow}
 use Rattle.planfile.specs.declared.Plan.{Plan}
 
@@ -25,30 +24,35 @@ abbrev pub refused_as : {R : Type 0} → (R → ℕ) → BadNumber R → ℕ
 refused_as f (Malformed m) = form_fault (formed m)
 refused_as f (OutOfRange r) = f r
 
+-- the place after what was read at a place; what was refused is not passed over
+unfoldable pub place_after : {T E : Type 0} → ℕ → Result (Read T) E → ℕ
+place_after at (Ok r) = r.next
+place_after at (Err e) = at
+
 -- the inner answers as steps; a number that is read at a place is refused there
-unfoldable pub taken_as : {R : Type 0} → (R → ℕ) → ℕ → Result Taken (BadNumber R) → Step ℕ
-taken_as f at (Ok t) = got t.value t.next
+unfoldable pub taken_as : {R : Type 0} → (R → ℕ) → ℕ → Result (Read ℕ) (BadNumber R) → Step ℕ
+taken_as f at (Ok t) = got t.got t.next
 taken_as f at (Err b) = stopped (refused_as f b) at
 
-unfoldable pub taken : Result Taken Fault → Step ℕ
-taken (Ok t) = got t.value t.next
+unfoldable pub taken : Result (Read ℕ) Fault → Step ℕ
+taken (Ok t) = got t.got t.next
 taken (Err f) = stopped (number_of f.refusal) f.place
 
 -- as the code says it
 abbrev pub HeaderRead : Type 0
-HeaderRead = Result Header Fault
+HeaderRead = Result (Read Plan) Fault
 
 unfoldable pub headed : HeaderRead → Step Head
-headed (Ok h) = got (record { link = h.link; rows = h.rows }) h.next
+headed (Ok h) = got (record { link = h.got.link; rows = h.got.rows }) h.next
 headed (Err f) = stopped (number_of f.refusal) f.place
 
 -- the ranges of a header that was read
 abbrev pub InRange : HeaderRead → Type 0
-InRange (Ok h) = (0 < h.link.period) × (h.rows ≤ max_rows)
+InRange (Ok h) = (0 < h.got.link.period) × (h.got.rows ≤ max_rows)
 InRange (Err f) = Unit
 
-unfoldable pub rowed : Result OneRow Fault → Step Row
-rowed (Ok r) = got (record { delay = r.delay; offset = r.offset }) r.next
+unfoldable pub rowed : Result (Read OneRow) Fault → Step Row
+rowed (Ok r) = got (record { delay = r.got.delay; offset = r.got.offset }) r.next
 rowed (Err f) = stopped (number_of f.refusal) f.place
 
 -- all rows, with the two lists that they were put into

@@ -69,30 +69,21 @@ impl From<BadNumber<Refusal>> for Refusal {
     }
 }
 
-// A number in its range, and the place after it.
+// What was read at a place, and the place after it.
 #[derive(Clone, Copy, Debug, PartialEq, Eq)]
-pub struct Taken {
-    pub value: u32,
+pub struct Read<T> {
+    pub got: T,
     pub next: usize,
 }
 
-// The numbers before the rows, and the place after them.
-#[derive(Clone, Copy, Debug, PartialEq, Eq)]
-pub struct Header {
-    pub link: Link,
-    pub rows: usize,
-    pub next: usize,
-}
-
-// One row, and the place after it.
+// One row of the file.
 #[derive(Clone, Copy)]
 struct Row {
     delay: u32,
     offset: u32,
-    next: usize,
 }
 
-// A plan that was read: its rows stand in the fronts of the two lent lists.
+// A plan without its rows: they follow the header, and once they are read they stand in the fronts of the two lent lists.
 #[derive(Clone, Copy, Debug, PartialEq, Eq)]
 pub struct Plan {
     pub link: Link,

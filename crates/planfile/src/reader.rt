@@ -2,10 +2,10 @@
 ghost use Rattle.std.specs.Prelude.{◌≡◌, ℕ, [], ◌≤◌, ◌<◌, length, take};
 ghost use Rattle.ground.specs.Refusals.{number_of as refusal_number};
 ghost use Rattle.planfile.specs.Bytes.{Bytes};
-ghost use Rattle.planfile.specs.FileMeaning.{after, number as number_of, header, tag_fault, tagged, row, rows as rows_of};
-ghost use Rattle.planfile.specs.Answer.{taken_as, taken, headed, InRange, rowed, rowsed, Gives, closes, rest_gives};
+ghost use Rattle.planfile.specs.FileMeaning.{number as number_of, header, tag_fault, tagged, row, rows as rows_of};
+ghost use Rattle.planfile.specs.Answer.{taken_as, taken, place_after, headed, InRange, rowed, rowsed, Gives, closes, rest_gives};
 
-use crate::{BadNumber, Header, Plan, Row, TAG, Taken, groups};
+use crate::{BadNumber, Plan, Read, Row, TAG, groups};
 use ground::{Fault, Refusal};
 use link::Link;
 use link::limits::{MAX_DELAY, MAX_PERIOD, MAX_ROWS};
@@ -17,28 +17,34 @@ pub fn take_number<R: Copy>(
     low: u32,
     high: u32,
     fault: R,
-) -> Result<Taken, BadNumber<R>>
+) -> Result<Read<u32>, BadNumber<R>>
     ensures { (f : R → ℕ) → taken_as f at result ≡ number_of bytes.now at low high (f fault) }
 {
     let number = groups::number_at(bytes, at)?;
     if number.value < low || number.value > high {
         return Err(BadNumber::OutOfRange(fault));
     }
-    Ok(Taken {
-        value: number.value,
+    Ok(Read {
+        got: number.value,
         next: at + number.length,
     })
 }
 
-// The place after a number that was read at a place; one that was refused is not passed over.
-pub fn after_number<R: Copy>(at: usize, got: Result<Taken, BadNumber<R>>) -> usize
-    ensures { (f : R → ℕ) → result ≡ after at (taken_as f at got) }
+// The place after what was read at a place; what was refused is not passed over.
+pub fn after<T: Copy, E: Copy>(at: usize, got: Result<Read<T>, E>) -> usize
+    ensures { result ≡ place_after at got }
 {
-    got.map_or(at, |taken| taken.next)
+    got.map_or(at, |read| read.next)
 }
 
 // The number at a place, and the refusal that a number out of its range gets there.
-fn number_in(bytes: &[u8], at: usize, low: u32, high: u32, refusal: Refusal) -> Result<Taken, Fault>
+fn number_in(
+    bytes: &[u8],
+    at: usize,
+    low: u32,
+    high: u32,
+    refusal: Refusal,
+) -> Result<Read<u32>, Fault>
     ensures { taken result ≡ number_of bytes.now at low high (refusal_number refusal) }
 {
     take_number(bytes, at, low, high, refusal).map_err(|bad| Fault {
@@ -48,18 +54,20 @@ fn number_in(bytes: &[u8], at: usize, low: u32, high: u32, refusal: Refusal) -> 
 }
 
 // Period, size and the number of rows.
-fn read_numbers(bytes: &[u8], at: usize) -> Result<Header, Fault>
+fn read_numbers(bytes: &[u8], at: usize) -> Result<Read<Plan>, Fault>
     ensures { headed result ≡ header bytes.now at }
 {
     let period = number_in(bytes, at, 1, MAX_PERIOD, Refusal::BadPeriod)?;
-    let size = number_in(bytes, period.next, 1, period.value, Refusal::BadSize)?;
+    let size = number_in(bytes, period.next, 1, period.got, Refusal::BadSize)?;
     let rows = number_in(bytes, size.next, 1, MAX_ROWS as u32, Refusal::BadRows)?;
-    Ok(Header {
-        link: Link {
-            period: period.value,
-            size: size.value,
+    Ok(Read {
+        got: Plan {
+            link: Link {
+                period: period.got,
+                size: size.got,
+            },
+            rows: rows.got as usize,
         },
-        rows: rows.value as usize,
         next: rows.next,
     })
 }
@@ -75,7 +83,7 @@ fn tag_refusal(bytes: &[u8]) -> Refusal
 }
 
 // The tag, and the header at a place.
-pub fn read_header(bytes: &[u8], at: usize) -> Result<Header, Fault>
+pub fn read_header(bytes: &[u8], at: usize) -> Result<Read<Plan>, Fault>
     ensures { (headed result ≡ tagged bytes.now at) × Bytes bytes.now }
 {
     if !bytes.starts_with(&TAG) {
@@ -87,24 +95,18 @@ pub fn read_header(bytes: &[u8], at: usize) -> Result<Header, Fault>
     read_numbers(bytes, at)
 }
 
-// The place after a header that was read at a place, where the rows begin; one that was refused is not passed over. One line, as
-// `after_number` is: a trait for the two would be longer.
-pub fn after_header(at: usize, head: Result<Header, Fault>) -> usize
-    ensures { result ≡ after at (headed head) }
-{
-    head.map_or(at, |header| header.next)
-}
-
 // Delay and offset of one row.
-fn read_row(bytes: &[u8], at: usize, period: u32) -> Result<Row, Fault>
+fn read_row(bytes: &[u8], at: usize, period: u32) -> Result<Read<Row>, Fault>
     requires { 0 < period }
     ensures { rowed result ≡ row bytes.now period at }
 {
     let delay = number_in(bytes, at, 0, MAX_DELAY, Refusal::BadDelay)?;
     let offset = number_in(bytes, delay.next, 0, period - 1, Refusal::BadOffset)?;
-    Ok(Row {
-        delay: delay.value,
-        offset: offset.value,
+    Ok(Read {
+        got: Row {
+            delay: delay.got,
+            offset: offset.got,
+        },
         next: offset.next,
     })
 }
@@ -125,8 +127,8 @@ fn read_rows(
     let mut at = from;
     for j in 0..rows {
         let row = read_row(bytes, at, period)?;
-        delays[j] = row.delay;
-        offsets[j] = row.offset;
+        delays[j] = row.got.delay;
+        offsets[j] = row.got.offset;
         at = row.next;
     }
     Ok(at)
@@ -172,7 +174,7 @@ fn close(
 pub fn read_rest(
     bytes: &[u8],
     at: usize,
-    head: Result<Header, Fault>,
+    head: Result<Read<Plan>, Fault>,
     delays: &mut [u32],
     offsets: &mut [u32],
 ) -> Result<Plan, Fault>
@@ -181,7 +183,7 @@ pub fn read_rest(
         (rest_gives bytes.now at head delays.old offsets.old)
         result delays.new offsets.new }
 {
-    let header = head?;
+    let header = head?.got;
     let mut ds = [0u32; MAX_ROWS];
     let mut os = [0u32; MAX_ROWS];
     let rows = header.rows;

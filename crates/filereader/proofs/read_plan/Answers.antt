@@ -1,6 +1,7 @@
 -- The reader that is opened stands after the tag of the caller's bytes; the header there, and the rest from where the next reader
 -- stands, are the whole file.
-use Rattle.planfile.proofs.Joining.{in_range, as_read}
+use mathlib.Core.Path.{◌∙◌}
+use Rattle.planfile.proofs.Joining.{in_range, as_read, after_headed}
 use Rattle.filereader.proofs.read_plan.Goals as goal
 
 pub read_rest-requires : goal.read_rest-requires
@@ -10,5 +11,6 @@ pub returns : goal.returns
 returns c =
     let o = c.open-start.ensures in
     let head = rw (o.0, o.1) at c.read_header-head.ensures in
-    let both = as_read _ _ _ _ _ _ _ _ head.0 (rw o.1 at c.after_header.ensures) head.1 (rw o.0 at c.read_rest.ensures) in
+    let place = rw o.1 at (c.after.ensures ∙ after_headed _ _) in
+    let both = as_read _ _ _ _ _ _ _ _ head.0 place head.1 (rw o.0 at c.read_rest.ensures) in
     record { answer = both.0; file_of = both.1 }
