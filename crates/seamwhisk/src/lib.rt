@@ -108,7 +108,7 @@ pub fn seamwhisk_read_table(text: &[u8], delays: &mut [u32], answer: &mut [u64; 
     *answer = numbers::read(text::read_table(text, delays));
 }
 
-// The answers to joined texts are a flat list, four numbers each: no slice of structs can be lent.
+// The answers to joined texts are a flat list, four numbers each; the header's `seamwhisk_plan_texts` takes it as a list of structs.
 pub fn seamwhisk_plan_texts_flat(
     texts: &[u8],
     budget: u64,

@@ -1,5 +1,5 @@
 // Each answer as its numbers: number and place of a refusal first, and 0 for what does not apply.
-ghost use Rattle.std.specs.Prelude.{◌≡◌, ◌≤◌, ◌-◌, ◌∷◌, replicate};
+ghost use Rattle.std.specs.Prelude.{◌≡◌, ◌≤◌, ◌-◌, [], ◌∷◌, replicate};
 ghost use Rattle.ground.specs.Refusals.{number_of};
 ghost use Rattle.checker.specs.Answer.{said as said_checked};
 ghost use Rattle.quick.specs.Answer.{said as said_planned};
@@ -13,6 +13,7 @@ ghost use Rattle.seamwhisk.specs.Numbers.{checked_as, planned_as, searched_as, r
 use checker::Collision;
 use ground::{Fault, Refusal};
 use joined::Stopped;
+use link::Link;
 use planfile::Plan;
 use report::Reported;
 use search::Answer;
@@ -65,17 +66,24 @@ pub(crate) fn searched(answer: Result<Answer, Fault>) -> [u64; 3]
     }
 }
 
+// A link and the number of its rows.
+fn linked(link: Link, rows: usize) -> [u64; 5]
+    ensures { result ≡ 0 ∷ 0 ∷ link.period ∷ link.size ∷ rows ∷ [] }
+{
+    [
+        0,
+        0,
+        u64::from(link.period),
+        u64::from(link.size),
+        rows as u64,
+    ]
+}
+
 pub(crate) fn read(answer: Result<Table, Fault>) -> [u64; 5]
     ensures { result ≡ read_as (said_read answer) }
 {
     match answer {
-        Ok(table) => [
-            0,
-            0,
-            u64::from(table.link.period),
-            u64::from(table.link.size),
-            table.rows as u64,
-        ],
+        Ok(table) => linked(table.link, table.rows),
         Err(fault) => refused(fault),
     }
 }
@@ -106,13 +114,7 @@ pub(crate) fn file(answer: Result<Plan, Fault>) -> [u64; 5]
     ensures { result ≡ file_as (read_said answer) }
 {
     match answer {
-        Ok(plan) => [
-            0,
-            0,
-            u64::from(plan.link.period),
-            u64::from(plan.link.size),
-            plan.rows as u64,
-        ],
+        Ok(plan) => linked(plan.link, plan.rows),
         Err(fault) => refused(fault),
     }
 }
