@@ -64,5 +64,5 @@ pub fn read_plan(bytes: &[u8], delays: &mut [u32], offsets: &mut [u32]) -> Resul
         at: reader::after(start.at, head),
         ..start
     };
-    reader::read_rest(at_rows.bytes, at_rows.at, head, delays, offsets)
+    reader::read_rest(at_rows.bytes, at_rows.at, head, delays, offsets)?
 }

@@ -13,8 +13,8 @@ use Rattle.planfile.specs.Format.{tag}
 use Rattle.planfile.specs.FileMeaning.{Step, got, stopped, after, Head, header, tag_fault, tagged, rows, Meaning, refused, means}
 use Rattle.ground.specs.Words.{begins}
 use Rattle.planfile.specs.FileMeaning.{closing, rest, body, meaning}
-use Rattle.planfile.specs.Answer.{taken_as, place_after, HeaderRead, headed, InRange, PlanRead, IsFileOf}
-use Rattle.planfile.specs.Answer.{refuses, delivered, rest_gives, ReadGives, Gives, read_gives}
+use Rattle.planfile.specs.Answer.{taken_as, place_after, HeaderRead, headed, HeaderRanges, InRange, PlanRead, IsFileOf}
+use Rattle.planfile.specs.Answer.{refuses, delivered, rest_gives, ReadGives, Gives, GivesRest, read_gives, read_said}
 use Rattle.planfile.specs.declared.Read.{Read}
 use Rattle.planfile.specs.declared.Plan.{Plan}
 use Rattle.planfile.specs.declared.BadNumber.{BadNumber}
@@ -46,7 +46,7 @@ module _ (bs : List ℕ) (at : ℕ) where
   in_range (Ok h) e = go (begins tag bs) e
     where
       go : (b : Bool) → got (record { link = h.got.link; rows = h.got.rows }) h.next ≡ cond b (header bs at) (stopped (tag_fault bs) 0)
-          → InRange (Ok h)
+          → HeaderRanges h
       go true f = let r = header_read bs at (record { link = h.got.link; rows = h.got.rows }) h.next (sym f) in (r.period.low, r.rows.high)
       go false f = never (cc)
 
@@ -67,6 +67,11 @@ module _ (bs : List ℕ) (at : ℕ) where
       unfolding headed rest_gives
       all_rows ds os end f = rw (e, f)
 
+-- a reader's answer to a header that may be refused by its own refusals, as one answer
+abbrev pub flat : Result PlanRead Fault → PlanRead
+flat (Ok r) = r
+flat (Err f) = Err f
+
 -- the rest, from where the reader stands after the header, is what the file means
 module _ (bs old_d old_o : List ℕ) where
   goes_on : (at : ℕ) (s : Step Head) → means s (λ h _. rest bs h (after at s)) ≡ means s (λ h next. rest bs h next)
@@ -84,8 +89,16 @@ module _ (bs old_d old_o : List ℕ) where
       go true = refl
       go false = refl
 
-  pub as_read : (h : HeaderRead) (m : ℕ) (r : PlanRead) (ds os : List ℕ) → headed h ≡ tagged bs 4 → m ≡ after 4 (headed h) → Bytes bs →
-      Gives (rest_gives bs m h old_d old_o) r ds os → Gives (read_gives bs old_d old_o) r ds os × IsFileOf r bs ds os
-  as_read h m r ds os e place bytes given =
-      let all = subst (λ (g : ReadGives). Gives g r ds os) (ap (λ (n : ℕ). rest_gives bs n h old_d old_o) place ∙ whole h e) given in
-      (all, is_file_of bs old_d old_o ds os r bytes all)
+  -- what is handed on is the answer, and else what is read
+  handed : (h : HeaderRead) (at : ℕ) (q : Result PlanRead Fault) (ds os : List ℕ) → GivesRest bs at h old_d old_o q ds os
+      → Gives (rest_gives bs at h old_d old_o) (flat q) ds os
+  unfolding headed delivered rest_gives read_said
+  handed (Ok h) at q ds os w = rw w.1 w.2
+  handed (Err f) at q ds os w = rw (w.0, w.1, w.2)
+
+  pub as_read : (h : HeaderRead) (m : ℕ) (q : Result PlanRead Fault) (ds os : List ℕ) → headed h ≡ tagged bs 4 → m ≡ after 4 (headed h)
+      → Bytes bs → GivesRest bs m h old_d old_o q ds os → Gives (read_gives bs old_d old_o) (flat q) ds os × IsFileOf (flat q) bs ds os
+  as_read h m q ds os e place bytes given =
+      let rest = handed h m q ds os given in
+      let all = subst (λ (g : ReadGives). Gives g (flat q) ds os) (ap (λ (n : ℕ). rest_gives bs n h old_d old_o) place ∙ whole h e) rest in
+      (all, is_file_of bs old_d old_o ds os (flat q) bytes all)

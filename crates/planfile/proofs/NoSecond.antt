@@ -1,14 +1,25 @@
 -- No second answer, and no second content of lent memory, meets a contract. Assumes nothing.
-use mathlib.Core.Path.{◌≡◌, refl, ap}
+use mathlib.Core.Path.{◌≡◌, refl, sym, ap, ◌∙◌}
+use mathlib.Core.Bool.{cond}
 use mathlib.Core.List.{List}
-use Prim.Native.Nat.{ℕ}
+use Prim.Native.Nat.{ℕ, zero, suc}
+use lib.Dec.{eqb}
 use Rattle.link.specs.declared.Link.{Link}
 use Rattle.ground.specs.Protocol.{gives}
 use Rattle.ground.proofs.Answers.{no_second_outcome}
 use Rattle.ground.proofs.Refusals.{refused, fault_again}
 use Rattle.ground.specs.declared.Fault.{Fault}
-use Rattle.std.specs.Prelude.{Ok, Err}
-use Rattle.planfile.specs.Answer.{Verdict, done, refusal, ReadSaid, PlanRead, read_said, Lists, Gives, read_gives}
+use Rattle.std.specs.Prelude.{Result, Ok, Err}
+use Rattle.planfile.specs.Number.{form_fault}
+use Rattle.planfile.specs.FileMeaning.{Step, got, stopped}
+use Rattle.planfile.specs.declared.BadNumber.{BadNumber}
+use Rattle.planfile.specs.declared.BadNumber.TheVariants.{Malformed as BadForm, OutOfRange}
+use Rattle.planfile.specs.declared.Malformed.{Malformed}
+use Rattle.planfile.specs.declared.Malformed.TheVariants.{Cut as IsCut, TooLong as IsTooLong, Needless as IsNeedless}
+use Rattle.planfile.specs.declared.Plan.{Plan}
+use Rattle.planfile.specs.declared.Read.{Read}
+use Rattle.planfile.specs.Answer.{taken_as, RefusesOwn}
+use Rattle.planfile.specs.Answer.{Verdict, done, refusal, ReadSaid, PlanRead, read_said, Lists, Gives, GivesRest, read_gives}
 use Rattle.planfile.specs.Answer.{WrittenSaid, PlanWritten, written_said, write_gives}
 
 abbrev unread : ReadSaid → PlanRead
@@ -29,6 +40,38 @@ pub no_second_reading : (bs old_d old_o : List ℕ) (r r' : PlanRead) (ds ds' os
 no_second_reading bs old_d old_o r r' ds ds' os os' w v =
     let same = no_second_outcome read_said unread read_again w v in
     (same.0, ap (λ (l : Lists). l.delays) same.1, ap (λ (l : Lists). l.offsets) same.1)
+
+-- of the rest of a file, whatever its header's refusals are
+pub no_second_rest : {E : Type 0} (bs : List ℕ) (at : ℕ) (h : Result (Read Plan) E) (old_d old_o : List ℕ) (q q' : Result PlanRead E)
+    (ds ds' os os' : List ℕ) → GivesRest bs at h old_d old_o q ds os → GivesRest bs at h old_d old_o q' ds' os'
+    → (q ≡ q') × (ds ≡ ds') × (os ≡ os')
+no_second_rest bs at (Ok h) old_d old_o q q' ds ds' os os' w v =
+    let same = no_second_outcome read_said unread read_again w.2 v.2 in
+    (w.1 ∙ ap Ok same.0 ∙ sym v.1, ap (λ (l : Lists). l.delays) same.1, ap (λ (l : Lists). l.offsets) same.1)
+no_second_rest bs at (Err e) old_d old_o q q' ds ds' os os' w v = (w.0 ∙ sym v.0, w.1 ∙ sym v.1, w.2 ∙ sym v.2)
+
+-- the numbering that gives the caller's own refusal none of the numbers of form tells what is wrong with a number
+abbrev malformed_of : ℕ → Malformed
+malformed_of n = cond (eqb n 19) IsCut (cond (eqb n 20) IsTooLong IsNeedless)
+
+module _ {R : Type 0} (fault : R) where
+  abbrev untaken : Step ℕ → Result (Read ℕ) (BadNumber R)
+  untaken (got v next) = Ok (record { got = v; next = next })
+  untaken (stopped zero p) = Err (OutOfRange fault)
+  untaken (stopped (suc m) p) = Err (BadForm (malformed_of (suc m)))
+
+  taken_again : (at : ℕ) (t : Result (Read ℕ) (BadNumber R)) → RefusesOwn fault t → untaken (taken_as (λ _. 0) at t) ≡ t
+  unfolding taken_as form_fault
+  taken_again at (Ok t) o = refl
+  taken_again at (Err (BadForm IsCut)) o = refl
+  taken_again at (Err (BadForm IsTooLong)) o = refl
+  taken_again at (Err (BadForm IsNeedless)) o = refl
+  taken_again at (Err (OutOfRange r)) o = ap (λ (x : R). Err (OutOfRange x)) (sym o)
+
+  -- of a number, whatever the caller's refusals are
+  pub no_second_taken : (at : ℕ) (t t' : Result (Read ℕ) (BadNumber R)) → RefusesOwn fault t → RefusesOwn fault t'
+      → taken_as (λ _. 0) at t ≡ taken_as (λ _. 0) at t' → t ≡ t'
+  no_second_taken at t t' o o' e = sym (taken_again at t o) ∙ ap untaken e ∙ taken_again at t' o'
 
 abbrev unwritten : WrittenSaid → PlanWritten
 unwritten s = unwritten_as s.verdict s

@@ -34,6 +34,12 @@ unfoldable pub taken_as : {R : Type 0} → (R → ℕ) → ℕ → Result (Read 
 taken_as f at (Ok t) = got t.got t.next
 taken_as f at (Err b) = stopped (refused_as f b) at
 
+-- a number out of its range is refused by the caller's own refusal, whatever that is
+abbrev pub RefusesOwn : {R : Type 0} → R → Result (Read ℕ) (BadNumber R) → Type 0
+RefusesOwn fault (Ok t) = Unit
+RefusesOwn fault (Err (Malformed m)) = Unit
+RefusesOwn fault (Err (OutOfRange r)) = r ≡ fault
+
 unfoldable pub taken : Result (Read ℕ) Fault → Step ℕ
 taken (Ok t) = got t.got t.next
 taken (Err f) = stopped (number_of f.refusal) f.place
@@ -47,9 +53,12 @@ headed (Ok h) = got (record { link = h.got.link; rows = h.got.rows }) h.next
 headed (Err f) = stopped (number_of f.refusal) f.place
 
 -- the ranges of a header that was read
-abbrev pub InRange : HeaderRead → Type 0
-InRange (Ok h) = (0 < h.got.link.period) × (h.got.rows ≤ max_rows)
-InRange (Err f) = Unit
+abbrev pub HeaderRanges : Read Plan → Type 0
+HeaderRanges h = (0 < h.got.link.period) × (h.got.rows ≤ max_rows)
+
+abbrev pub InRange : {E : Type 0} → Result (Read Plan) E → Type 0
+InRange (Ok h) = HeaderRanges h
+InRange (Err e) = Unit
 
 unfoldable pub rowed : Result (Read OneRow) Fault → Step Row
 rowed (Ok r) = got (record { delay = r.got.delay; offset = r.got.offset }) r.next
@@ -126,6 +135,11 @@ closes bs end k ds os old_d old_o = delivered (closing bs k ds os end) old_d old
 -- what the reader gives whose header is h, the rows standing from a place on
 unfoldable pub rest_gives : List ℕ → ℕ → HeaderRead → List ℕ → List ℕ → ReadGives
 rest_gives bs at h old_d old_o = delivered (means (headed h) (λ x _. rest bs x at)) old_d old_o
+
+-- the same in the code's form: a header that was refused is handed on, whatever refuses it, and both lists are kept
+abbrev pub GivesRest : {E : Type 0} → List ℕ → ℕ → Result (Read Plan) E → List ℕ → List ℕ → Result PlanRead E → List ℕ → List ℕ → Type 0
+GivesRest bs at (Ok h) old_d old_o q ds os = (r : PlanRead) × (q ≡ Ok r) × Gives (rest_gives bs at (Ok h) old_d old_o) r ds os
+GivesRest bs at (Err e) old_d old_o q ds os = (q ≡ Err e) × (ds ≡ old_d) × (os ≡ old_o)
 
 unfoldable pub read_gives : List ℕ → List ℕ → List ℕ → ReadGives
 read_gives bs old_d old_o = delivered (meaning bs) old_d old_o

@@ -1,9 +1,10 @@
 // The reader's steps, over a slice and a place in it: the struct that holds both stands above them, in `filereader`.
-ghost use Rattle.std.specs.Prelude.{◌≡◌, ℕ, [], ◌≤◌, ◌<◌, length, take};
+ghost use Rattle.std.specs.Prelude.{◌≡◌, ℕ, [], ◌≤◌, ◌<◌, length, take, Ok};
 ghost use Rattle.ground.specs.Refusals.{number_of as refusal_number};
 ghost use Rattle.planfile.specs.Bytes.{Bytes};
 ghost use Rattle.planfile.specs.FileMeaning.{number as number_of, header, tag_fault, tagged, row, rows as rows_of};
-ghost use Rattle.planfile.specs.Answer.{taken_as, taken, place_after, headed, InRange, rowed, rowsed, Gives, closes, rest_gives};
+ghost use Rattle.planfile.specs.Answer.{taken_as, RefusesOwn, taken, place_after, headed, HeaderRanges, InRange, rowed, rowsed};
+ghost use Rattle.planfile.specs.Answer.{Gives, closes, rest_gives, GivesRest};
 
 use crate::{BadNumber, Plan, Read, Row, TAG, groups};
 use ground::{Fault, Refusal};
@@ -18,7 +19,8 @@ pub fn take_number<R: Copy>(
     high: u32,
     fault: R,
 ) -> Result<Read<u32>, BadNumber<R>>
-    ensures { (f : R → ℕ) → taken_as f at result ≡ number_of bytes.now at low high (f fault) }
+    ensures number { (f : R → ℕ) → taken_as f at result ≡ number_of bytes.now at low high (f fault) }
+    ensures own { RefusesOwn fault result }
 {
     let number = groups::number_at(bytes, at)?;
     if number.value < low || number.value > high {
@@ -126,7 +128,11 @@ fn read_rows(
 {
     let mut at = from;
     for j in 0..rows {
-        let row = read_row(bytes, at, period)?;
+        // a `match`: what a refused row gives is what two must-fail edits turn
+        let row = match read_row(bytes, at, period) {
+            Ok(row) => row,
+            Err(fault) => return Err(fault),
+        };
         delays[j] = row.got.delay;
         offsets[j] = row.got.offset;
         at = row.next;
@@ -170,20 +176,18 @@ fn close(
     })
 }
 
-// The rows from a place on, and the closing, after the header.
-pub fn read_rest(
+// The rows from a place on, and the closing, after a header that was read.
+fn read_body(
     bytes: &[u8],
     at: usize,
-    head: Result<Read<Plan>, Fault>,
+    head: Read<Plan>,
     delays: &mut [u32],
     offsets: &mut [u32],
 ) -> Result<Plan, Fault>
-    requires { InRange head }
-    ensures { Gives
-        (rest_gives bytes.now at head delays.old offsets.old)
-        result delays.new offsets.new }
+    requires { HeaderRanges head }
+    ensures { Gives (rest_gives bytes.now at (Ok head) delays.old offsets.old) result delays.new offsets.new }
 {
-    let header = head?.got;
+    let header = head.got;
     let mut ds = [0u32; MAX_ROWS];
     let mut os = [0u32; MAX_ROWS];
     let rows = header.rows;
@@ -197,4 +201,19 @@ pub fn read_rest(
         delays,
         offsets,
     )
+}
+
+// The same after any header: one that was refused, whatever its refusal is, is handed on.
+pub fn read_rest<E: Copy>(
+    bytes: &[u8],
+    at: usize,
+    head: Result<Read<Plan>, E>,
+    delays: &mut [u32],
+    offsets: &mut [u32],
+) -> Result<Result<Plan, Fault>, E>
+    requires { InRange head }
+    ensures { GivesRest bytes.now at head delays.old offsets.old result delays.new offsets.new }
+{
+    let read = head?;
+    Ok(read_body(bytes, at, read, delays, offsets))
 }

@@ -1,12 +1,13 @@
 -- What the quick planners promise, of the planner over any step and count; proofs/FirstFit says it of First Fit by name.
 -- Assumes nothing.
 use mathlib.Core.Path.{◌≡◌, refl, sym, ap, ◌∙◌}
+use mathlib.Core.Bool.{Bool}
 use mathlib.Core.Logic.{◌↔◌}
 use mathlib.Core.List.{List}
 use Prim.Native.Nat.{ℕ, ◌≤◌, ◌<◌}
 use native.Mathlib.Omega.{arith}
 use lib.ListN.{length}
-use Rattle.std.specs.Prelude.{Ok, Err}
+use Rattle.std.specs.Prelude.{Ok, Err, Option, Some, None}
 use Rattle.ground.specs.declared.Fault.{Fault}
 use Rattle.ground.specs.Judging.{first}
 use Rattle.ground.specs.Least.{least}
@@ -23,6 +24,7 @@ use Rattle.link.specs.Rows.{span_of, free, Clear}
 use Rattle.link.specs.declared.Link.{Link}
 use Rattle.link.proofs.Accepted.{good_room, fine_room, planner_low}
 use Rattle.link.proofs.Clearness.{clear_rows}
+use Rattle.quick.specs.Ways.{FirstOpen}
 use Rattle.quick.specs.Plan.{free_at, Progress, rows, stuck, all_placed}
 use Rattle.quick.specs.Right.{Placed, GivenPlan, NoOffset}
 use Rattle.quick.specs.Answer.{Planned, planned, thirteen, Verdict, plan, refusal, Said, planning, refusing, said, outcome, quick}
@@ -39,6 +41,13 @@ pub again : (r : Planned) → unsaid (said r) ≡ r
 unfolding said
 again (Ok u) = refl
 again (Err f) = ap (λ (x : Fault). Err x) (fault_again f)
+
+-- no second candidate, and not one and none
+pub no_second_open : (q : ℕ → Bool) (from count : ℕ) (r s : Option ℕ) → FirstOpen q from count r → FirstOpen q from count s → r ≡ s
+no_second_open q from count (Some c) (Some d) w v = ap Some (w.0 ∙ sym v.0)
+no_second_open q from count (Some c) None w v = absurd (omega (arith, w.0, w.1, v))
+no_second_open q from count None (Some d) w v = absurd (omega (arith, v.0, v.1, w))
+no_second_open q from count None None w v = refl
 
 -- no second answer, and no second content of the list, meets the contract
 pub no_second : (k : Link) (ds old : List ℕ) (step count : ℕ) (r s : Planned) (new other : List ℕ)

@@ -6,4 +6,4 @@ use Rattle.planfile.proofs.reader.number_in.Goals as goal
 
 pub returns : goal.returns
 unfolding taken taken_as
-returns c = let w = c.take_number.ensures number_of in search rules
+returns c = let w = c.take_number.ensures.number number_of in search rules

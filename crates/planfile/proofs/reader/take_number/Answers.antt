@@ -10,15 +10,15 @@ use Rattle.planfile.specs.declared.BadNumber.TheVariants.{Malformed}
 use Rattle.planfile.proofs.Steps.{number_form, number_low, number_high, number_in, number_ends}
 use Rattle.planfile.proofs.reader.take_number.Goals as goal
 
-pub returns-in_err-number : goal.returns-in_err-number
+pub returns-in_err-number-clause-number : goal.returns-in_err-number-clause-number
 unfolding number_said taken_as
-returns-in_err-number g c f =
+returns-in_err-number-clause-number g c f =
     let e : c.from_residual.result ≡ Err (Malformed c.in_err-number.field-0.0) = search rules in
     rw e (number_form _ _ _ _ _ _ c.in_err-number.ensures)
 
-pub returns-then-number-low : goal.returns-then-number-low
+pub returns-then-number-low-clause-number : goal.returns-then-number-low-clause-number
 unfolding number_said taken_as
-returns-then-number-low g c f =
+returns-then-number-low-clause-number g c f =
     ⊎_elim (λ h. number_low _ _ _ _ _ _ _ (sym c.in_ok-number.ensures) h) (λ w. number_high _ _ _ _ _ _ _ (sym c.in_ok-number.ensures) w.1)
     c.then-number-low.either
 
@@ -28,6 +28,6 @@ overflow_add-result g c =
     let n = number_ends c.args.bytes.now c.args.at _ _ (sym c.in_ok-number.ensures) in
     omega (arith, n)
 
-pub returns : goal.returns
+pub returns-clause-number : goal.returns-clause-number
 unfolding number_said taken_as
-returns g c f = number_in _ _ _ _ _ _ _ (sym c.in_ok-number.ensures) c.if-number-low.false c.if-number-high.false
+returns-clause-number g c f = number_in _ _ _ _ _ _ _ (sym c.in_ok-number.ensures) c.if-number-low.false c.if-number-high.false
