@@ -92,9 +92,9 @@ module _ (bs old_d old_o : List ℕ) where
   -- what is handed on is the answer, and else what is read
   handed : (h : HeaderRead) (at : ℕ) (q : Result PlanRead Fault) (ds os : List ℕ) → GivesRest bs at h old_d old_o q ds os
       → Gives (rest_gives bs at h old_d old_o) (flat q) ds os
-  unfolding headed delivered rest_gives read_said
+  unfolding read_said
   handed (Ok h) at q ds os w = rw w.1 w.2
-  handed (Err f) at q ds os w = rw (w.0, w.1, w.2)
+  handed (Err f) at q ds os w = rw (w.0, w.1, w.2) (sym (head_refused bs at (Err f) old_d old_o f refl))
 
   pub as_read : (h : HeaderRead) (m : ℕ) (q : Result PlanRead Fault) (ds os : List ℕ) → headed h ≡ tagged bs 4 → m ≡ after 4 (headed h)
       → Bytes bs → GivesRest bs m h old_d old_o q ds os → Gives (read_gives bs old_d old_o) (flat q) ds os × IsFileOf (flat q) bs ds os
