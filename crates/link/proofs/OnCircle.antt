@@ -2,7 +2,7 @@
 use mathlib.Core.Path.{◌≡◌, refl, sym, ap, ◌∙◌, subst}
 use mathlib.Core.Bool.{Bool, true, false, not, ◌&&◌}
 use mathlib.Core.Logic.{◌⊎◌, inl, inr, ⊎_elim}
-use Prim.Native.Nat.{ℕ, ◌+◌, ◌-◌, ◌%◌, ◌≤◌, ◌<◌}
+use Prim.Native.Nat.{ℕ, ◌+◌, ◌-◌, ◌*◌, ◌%◌, ◌≤◌, ◌<◌}
 use native.Mathlib.Omega.{arith}
 use native.Mathlib.Nat.{mod-lt, mod-eq_of_lt, mod-eq-sub-mod}
 use lib.Dec.{leb, eqb}
@@ -26,14 +26,6 @@ apart_true p l a b w = and_both _ _ (le-leb _ _ w.0) (le-leb _ _ w.1)
 pub apart_sym : (p l a b : ℕ) → Apart p l a b → Apart p l b a
 apart_sym p l a b w = omega arith
 
-pub apart_near : (p l a b : ℕ) → gap a b < l → apartb p l a b ≡ false
-apart_near p l a b h = is_false _ (λ e. let w = apart_parts p l a b e in omega arith)
-
--- how code shows it: the distance is d
-pub apart_when : (p l a b d : ℕ) → l ≤ d → d ≡ gap a b → leb (d + l) p ≡ apartb p l a b
-unfolding apartb
-apart_when p l a b d h e = rw (← e, le-leb _ _ h)
-
 -- a remainder of a number below two periods
 abbrev pub Turned : ℕ → ℕ → ℕ → Type 0
 Turned p x r = ((x < p) × (r ≡ x)) ⊎ ((p ≤ x) × (r + p ≡ x))
@@ -42,6 +34,27 @@ pub turned : (p x : ℕ) → x < p + p → Turned p x (x % p)
 turned p x h =
     ⊎_elim (λ l. inl (l, mod-eq_of_lt l))
     (λ g. let e : x % p ≡ x - p = mod-eq-sub-mod g ∙ mod-eq_of_lt (omega arith) in inr (g, omega arith)) (lt_or_ge x p)
+
+-- how code shows it, where two spans fit the period: the distance d less the span, as a number that wraps at m, is at most r
+pub apart_wrapped : (p l a b d m r : ℕ) → p + l < m → d < m → d ≡ gap a b → 2 * l ≤ p → r ≡ p - 2 * l
+    → leb ((d + (m - l)) % m) r ≡ apartb p l a b
+apart_wrapped p l a b d m r g f e h k =
+    same_test _ _ (λ t. apart_true p l a b (there (leb-true _ _ t) wraps)) (λ t. le-leb _ _ (back (apart_parts p l a b t) wraps))
+  where
+    wraps : Turned m (d + (m - l)) ((d + (m - l)) % m)
+    wraps = turned m (d + (m - l)) (omega arith)
+
+    there : {x : ℕ} → x ≤ r → Turned m (d + (m - l)) x → Apart p l a b
+    there u (inl v) = omega (arith, e)
+    there u (inr v) = omega (arith, e)
+
+    back : {x : ℕ} → Apart p l a b → Turned m (d + (m - l)) x → x ≤ r
+    back w (inl v) = omega (arith, e)
+    back w (inr v) = omega (arith, e)
+
+-- where they do not, everybody meets
+pub none_apart : (p l a b : ℕ) → p < 2 * l → apartb p l a b ≡ false
+none_apart p l a b h = is_false _ (λ e. let w = apart_parts p l a b e in omega arith)
 
 -- how code shows it: below the period, or one turn less
 pub turned_low : (p x : ℕ) → x < p → x ≡ x % p

@@ -111,21 +111,18 @@ impl Circle {
         at - rest
     }
 
-    // Two starts are at least the span from each other, both ways round the period.
+    // Two starts are at least the span from each other, both ways round the period. Where two spans fit the period one comparison tells:
+    // a distance below the span wraps, beyond all others.
     pub fn apart(self, a: u32, b: u32) -> bool
         ensures { result ≡ apartb self.period self.span a b }
     {
-        let d = u64::from(distance(a, b));
+        let p = u64::from(self.period);
         let l = u64::from(self.span);
-        if d < l {
-            return false;
-        }
-        d + l <= u64::from(self.period)
+        let d = u64::from(distance(a, b));
+        2 * l <= p && d.wrapping_sub(l) <= p - 2 * l
     }
 
-    // The least row, of those with these starts, that a row with this one meets, and the crossing (the first if both). Not inlined: its
-    // copies in the callers took up to two thirds longer, by where they came to lie.
-    #[inline(never)]
+    // The least row, of those with these starts, that a row with this one meets, and the crossing (the first if both).
     pub fn first_met(self, starts: &[Start], new: Start) -> Option<Met>
         ensures { met result
             ≡ first_near self.period self.span (firsts starts.now) (seconds starts.now) new.first new.second }

@@ -62,7 +62,9 @@ fn plan(
     Ok(())
 }
 
-// The least candidate, of those from `from` on and below the count, at which a row with this delay meets none of the rows so far.
+// The least candidate, of those from `from` on and below the count, at which a row with this delay meets none of the rows so far. Not
+// inlined: its copies in the one-slot planner took up to half as long again, by where they came to lie.
+#[inline(never)]
 pub fn first_free(
     circle: Circle,
     delay: u32,
