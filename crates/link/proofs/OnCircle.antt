@@ -26,6 +26,15 @@ apart_true p l a b w = and_both _ _ (le-leb _ _ w.0) (le-leb _ _ w.1)
 pub apart_sym : (p l a b : ℕ) → Apart p l a b → Apart p l b a
 apart_sym p l a b w = omega arith
 
+-- nearer than the span
+pub apart_near : (p l a b : ℕ) → gap a b < l → apartb p l a b ≡ false
+apart_near p l a b h = is_false _ (λ e. let w = apart_parts p l a b e in omega arith)
+
+-- where the distance d is at least the span, one comparison tells
+pub apart_when : (p l a b d : ℕ) → l ≤ d → d ≡ gap a b → leb (d + l) p ≡ apartb p l a b
+unfolding apartb
+apart_when p l a b d h e = rw (← e, le-leb _ _ h)
+
 -- a remainder of a number below two periods
 abbrev pub Turned : ℕ → ℕ → ℕ → Type 0
 Turned p x r = ((x < p) × (r ≡ x)) ⊎ ((p ≤ x) × (r + p ≡ x))
@@ -39,18 +48,20 @@ turned p x h =
 pub apart_wrapped : (p l a b d m r : ℕ) → p + l < m → d < m → d ≡ gap a b → 2 * l ≤ p → r ≡ p - 2 * l
     → leb ((d + (m - l)) % m) r ≡ apartb p l a b
 apart_wrapped p l a b d m r g f e h k =
-    same_test _ _ (λ t. apart_true p l a b (there (leb-true _ _ t) wraps)) (λ t. le-leb _ _ (back (apart_parts p l a b t) wraps))
+    ⊎_elim (λ near. beyond near ∙ sym (apart_near p l a b (omega (arith, e))))
+    (λ far. linear far ∙ apart_when p l a b d far e) (lt_or_ge d l)
   where
-    wraps : Turned m (d + (m - l)) ((d + (m - l)) % m)
-    wraps = turned m (d + (m - l)) (omega arith)
+    beyond : d < l → leb ((d + (m - l)) % m) r ≡ false
+    beyond near =
+        let same : (d + (m - l)) % m ≡ d + (m - l) = mod-eq_of_lt (omega arith) in
+        is_false _ (λ t. let u = leb-true _ _ t in omega (arith, same))
 
-    there : {x : ℕ} → x ≤ r → Turned m (d + (m - l)) x → Apart p l a b
-    there u (inl v) = omega (arith, e)
-    there u (inr v) = omega (arith, e)
-
-    back : {x : ℕ} → Apart p l a b → Turned m (d + (m - l)) x → x ≤ r
-    back w (inl v) = omega (arith, e)
-    back w (inr v) = omega (arith, e)
+    linear : l ≤ d → leb ((d + (m - l)) % m) r ≡ leb (d + l) p
+    linear far =
+        let less : (d + (m - l)) % m ≡ (d + (m - l)) - m = mod-eq-sub-mod (omega arith) ∙ mod-eq_of_lt (omega arith) in
+        same_test _ _
+        (λ t. let u = leb-true _ _ t in le-leb _ _ (omega (arith, less)))
+        (λ t. let u = leb-true _ _ t in le-leb _ _ (omega (arith, less)))
 
 -- where they do not, everybody meets
 pub none_apart : (p l a b : ℕ) → p < 2 * l → apartb p l a b ≡ false

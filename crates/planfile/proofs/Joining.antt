@@ -89,16 +89,19 @@ module _ (bs old_d old_o : List ℕ) where
       go true = refl
       go false = refl
 
+  pub as_read : (h : HeaderRead) (m : ℕ) (r : PlanRead) (ds os : List ℕ) → headed h ≡ tagged bs 4 → m ≡ after 4 (headed h) → Bytes bs →
+      Gives (rest_gives bs m h old_d old_o) r ds os → Gives (read_gives bs old_d old_o) r ds os × IsFileOf r bs ds os
+  as_read h m r ds os e place bytes given =
+      let all = subst (λ (g : ReadGives). Gives g r ds os) (ap (λ (n : ℕ). rest_gives bs n h old_d old_o) place ∙ whole h e) given in
+      (all, is_file_of bs old_d old_o ds os r bytes all)
+
   -- what is handed on is the answer, and else what is read
-  handed : (h : HeaderRead) (at : ℕ) (q : Result PlanRead Fault) (ds os : List ℕ) → GivesRest bs at h old_d old_o q ds os
+  pub handed : (h : HeaderRead) (at : ℕ) (q : Result PlanRead Fault) (ds os : List ℕ) → GivesRest bs at h old_d old_o q ds os
       → Gives (rest_gives bs at h old_d old_o) (flat q) ds os
   unfolding read_said
   handed (Ok h) at q ds os w = rw w.1 w.2
   handed (Err f) at q ds os w = rw (w.0, w.1, w.2) (sym (head_refused bs at (Err f) old_d old_o f refl))
 
-  pub as_read : (h : HeaderRead) (m : ℕ) (q : Result PlanRead Fault) (ds os : List ℕ) → headed h ≡ tagged bs 4 → m ≡ after 4 (headed h)
+  pub as_handed : (h : HeaderRead) (m : ℕ) (q : Result PlanRead Fault) (ds os : List ℕ) → headed h ≡ tagged bs 4 → m ≡ after 4 (headed h)
       → Bytes bs → GivesRest bs m h old_d old_o q ds os → Gives (read_gives bs old_d old_o) (flat q) ds os × IsFileOf (flat q) bs ds os
-  as_read h m q ds os e place bytes given =
-      let rest = handed h m q ds os given in
-      let all = subst (λ (g : ReadGives). Gives g (flat q) ds os) (ap (λ (n : ℕ). rest_gives bs n h old_d old_o) place ∙ whole h e) rest in
-      (all, is_file_of bs old_d old_o ds os (flat q) bytes all)
+  as_handed h m q ds os e place bytes given = as_read h m (flat q) ds os e place bytes (handed h m q ds os given)

@@ -1,17 +1,20 @@
 -- No second answer, and no second content of lent memory, meets a contract. Assumes nothing.
 use mathlib.Core.Path.{◌≡◌, refl, sym, ap, ◌∙◌}
-use mathlib.Core.Bool.{cond}
+use mathlib.Core.Bool.{Bool, true, false, cond}
 use mathlib.Core.List.{List}
-use Prim.Native.Nat.{ℕ, zero, suc}
+use Prim.Native.Nat.{ℕ, zero, suc, ◌+◌}
 use lib.Dec.{eqb}
+use lib.ListN.{drop}
 use Rattle.link.specs.declared.Link.{Link}
 use Rattle.ground.specs.Protocol.{gives}
 use Rattle.ground.proofs.Answers.{no_second_outcome}
 use Rattle.ground.proofs.Refusals.{refused, fault_again}
 use Rattle.ground.specs.declared.Fault.{Fault}
 use Rattle.std.specs.Prelude.{Result, Ok, Err}
-use Rattle.planfile.specs.Number.{form_fault}
-use Rattle.planfile.specs.FileMeaning.{Step, got, stopped}
+use Rattle.ground.specs.Judging.{outside}
+use Rattle.ground.proofs.Bools.{never}
+use Rattle.planfile.specs.Number.{Number, Value, Cut, TooLong, Needless, read_number, form_fault}
+use Rattle.planfile.specs.FileMeaning.{Step, got, stopped, ranged, number}
 use Rattle.planfile.specs.declared.BadNumber.{BadNumber}
 use Rattle.planfile.specs.declared.BadNumber.TheVariants.{Malformed as BadForm, OutOfRange}
 use Rattle.planfile.specs.declared.Malformed.{Malformed}
@@ -72,6 +75,25 @@ module _ {R : Type 0} (fault : R) where
   pub no_second_taken : (at : ℕ) (t t' : Result (Read ℕ) (BadNumber R)) → RefusesOwn fault t → RefusesOwn fault t'
       → taken_as (λ _. 0) at t ≡ taken_as (λ _. 0) at t' → t ≡ t'
   no_second_taken at t t' o o' e = sym (taken_again at t o) ∙ ap untaken e ∙ taken_again at t' o'
+
+-- where the caller's refusals can be numbered and taken back, what all numberings tell says that none but its own is given
+pub own_numbered : {R : Type 0} (f : R → ℕ) (back : ℕ → R) → ((r : R) → back (f r) ≡ r) → (bs : List ℕ) (at lo hi : ℕ) (fault : R)
+    (t : Result (Read ℕ) (BadNumber R)) → ((g : R → ℕ) → taken_as g at t ≡ number bs at lo hi (g fault)) → RefusesOwn fault t
+unfolding taken_as number form_fault
+own_numbered f back again bs at lo hi fault (Ok t) e = tt
+own_numbered f back again bs at lo hi fault (Err (BadForm m)) e = tt
+own_numbered f back again bs at lo hi fault (Err (OutOfRange r)) e =
+    sym (again r) ∙ ap back (same (read_number (drop at bs)) (e (λ _. 0)) (e f)) ∙ again fault
+  where
+    same_range : (b : Bool) (v next : ℕ) → stopped (f r) at ≡ cond b (stopped (f fault) at) (got v next) → f r ≡ f fault
+    same_range true v next w = cc
+    same_range false v next w = never (cc)
+
+    same : (x : Number) → stopped 0 at ≡ ranged x at lo hi 0 → stopped (f r) at ≡ ranged x at lo hi (f fault) → f r ≡ f fault
+    same (Value v n) z w = same_range (outside lo hi v) v (at + n) w
+    same Cut z w = never (cc)
+    same TooLong z w = never (cc)
+    same Needless z w = never (cc)
 
 abbrev unwritten : WrittenSaid → PlanWritten
 unwritten s = unwritten_as s.verdict s
